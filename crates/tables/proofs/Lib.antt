@@ -1,0 +1,4 @@
+pub mod Ranges
+pub mod Curves
+pub mod Fills
+pub mod Tables

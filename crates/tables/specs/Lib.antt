@@ -1,0 +1,6 @@
+pub mod Limits
+pub mod Ranges
+pub mod Curves
+pub mod Refusals
+pub mod Tables
+pub mod Makes

@@ -1,0 +1,34 @@
+ghost use mathlib.Core.Path.{_≡_};
+ghost use Prim.Native.Nat.{_*_, _^_, _<_, _≤_};
+ghost use Rattle.tables.specs.Limits.{longest, limit};
+ghost use Rattle.tables.specs.Tables.{at};
+use super::Table;
+
+impl Table {
+    pub fn frame(&self) -> usize
+        ensures value { λ r. ⌜ r ≡ now (self .entry) .frame ⌝ }
+        ensures low_bound { λ r. ⌜ 1 ≤ r ⌝ }
+        ensures high_bound { λ r. ⌜ r ≤ longest ⌝ }
+    {
+        self.frame
+    }
+
+    /// The repeated entry at any length.
+    pub fn at(&self, length: u32) -> u64
+        ensures value { λ r. ⌜ r ≡ at (now (self .entry)) length ⌝ }
+        ensures bound { λ r. ⌜ r < 2 ^ 53 ⌝ }
+    {
+        let frames = length as usize / self.frame;
+        let place = length as usize % self.frame;
+        frames as u64 * self.entries[self.frame] as u64 + self.entries[place] as u64
+    }
+
+    // The repeated entry at a length that is laid out.
+    pub(crate) fn near(&self, length: usize) -> u32
+        requires { ⌜ length ≤ 128 ⌝ }
+        ensures value { λ r. ⌜ r ≡ at (now (self .entry)) length ⌝ }
+        ensures bound { λ r. ⌜ r ≤ 128 * limit ⌝ }
+    {
+        self.entries[length]
+    }
+}
