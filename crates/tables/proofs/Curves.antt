@@ -13,7 +13,7 @@ use Rattle.std.specs.declared.option.Option.{Option}
 use Rattle.std.specs.declared.option.Option.the-variants.{Some, None}
 use Rattle.std.proofs.shelf.Tests.{leb-true, le-leb, and-parts, false≢true}
 use Rattle.tables.specs.Limits.{longest, limit}
-use Rattle.tables.specs.Curves.{Graph, Settles, Shortest, convolved, excess, settling, covers, delay, deconvolved, passed-most, growth, lawful, under}
+use Rattle.tables.specs.Curves.{Graph, Settles, Shortest, convolved, excess, settling-length, covers, shortest-delay, deconvolved, passed-most, growth, lawful, nowhere-above}
 use Rattle.tables.proofs.Ranges.{largest-ge, largest-le, largest-same, smallest-le, smallest-ge, smallest-same, first-some, first-least, first-sound, every-true, every-each}
 
 -- up to n, no value smaller than the one before it
@@ -139,8 +139,8 @@ some-value None h = let z : _≡_ {A = Bool} false true = h in absurd (false≢t
 some-value (Some x) h = refl
 
 module _ (n : ℕ) (f g : ℕ → ℕ) where
-  pub settling-settles : (d : ℕ) → settling n f g ≡ Some d → Settles n f g d
-  unfolding settling
+  pub settling-settles : (d : ℕ) → settling-length n f g ≡ Some d → Settles n f g d
+  unfolding settling-length
   settling-settles d e =
       let p : ℕ → Bool = λ k. leb (f k) (g k) in
       let s = first-sound p 1 n d e in
@@ -151,9 +151,9 @@ module _ (n : ℕ) (f g : ℕ → ℕ) where
         earliest = λ k low h. first-least p 1 n d k e low (le-leb (f k) (g k) h);
       }
 
-  -- where f is at most g at the length n, a delay of n is enough, so there is a smallest
-  pub delay-shortest : Rises f → Rises g → f n ≤ g n → Shortest n f g (delay n f g)
-  unfolding delay covers
+  -- where f is at most g at the length n, a shortest-delay of n is enough, so there is a smallest
+  pub delay-shortest : Rises f → Rises g → f n ≤ g n → Shortest n f g (shortest-delay n f g)
+  unfolding shortest-delay covers
   delay-shortest fr gr h =
       let p : ℕ → Bool = covers n f g in
       let enough : isSome (first 0 n p) ≡ true =
@@ -167,8 +167,8 @@ module _ (n : ℕ) (f g : ℕ → ℕ) where
         least = λ c fits. first-least p 0 n d c is (omega arith) (every-true (λ k. leb (f k) (g (k + c))) 0 n (λ k _ l. le-leb (f k) (g (k + c)) (fits k l)));
       }
 
-  pub delay-le : delay n f g ≤ n
-  unfolding delay
+  pub delay-le : shortest-delay n f g ≤ n
+  unfolding shortest-delay
   delay-le = at-most (first 0 n (covers n f g)) (λ d e. first-sound (covers n f g) 0 n d e .1)
     where
       at-most : (o : Option ℕ) → ((d : ℕ) → o ≡ Some d → d ≤ n) → valueOr o 0 ≤ n

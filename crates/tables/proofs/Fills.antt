@@ -52,8 +52,7 @@ pub laid-out : {n m : ℕ} {f : ℕ → ℕ} {xs : List ℕ} → Graph n f → F
     → (1 ≤ n) × ((n ≤ longest) × ((getD xs 0 0 ≡ 0) × (((k : ℕ) → k < n → getD xs k 0 ≤ getD xs (k + 1) 0) × ((getD xs n 0 ≤ limit)
     × (((k : ℕ) → k + n < 129 → getD xs (k + n) 0 ≡ getD xs k 0 + getD xs n 0) × Unit {0})))))
 laid-out {n} {m} {f} {xs} g h end =
-    let at-each : (k : ℕ) → k ≤ n → getD xs k 0 ≡ f k = λ k l. h .each k (omega (arith, g .few)) ∙ repeated-within n f (g .some) (g .starts) k l in
-    (
+    let at-each : (k : ℕ) → k ≤ n → getD xs k 0 ≡ f k = λ k l. h .each k (omega (arith, g .few)) ∙ repeated-within n f (g .some) (g .starts) k l in (
       g .some,
       (
         g .few,

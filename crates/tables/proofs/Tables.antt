@@ -144,3 +144,6 @@ shows-all {t} {n} {f} h = ap (λ m. repeated m (entry t)) (h .frame) ∙ repeate
 
 pub shows-curve : {t : Table} {n : ℕ} {f : ℕ → ℕ} → Shows t n f → curve t ≡ tabled n f
 shows-curve h = λ i. record { frame = h .frame i; count = shows-all h i }
+
+pub shows-to : {t : Table} {n m : ℕ} {f g : ℕ → ℕ} → n ≡ m → ((k : ℕ) → k ≤ m → f k ≡ g k) → Shows t n f → Shows t m g
+shows-to e same h = record { frame = h .frame ∙ e; each = λ k l. h .each k (omega arith) ∙ same k l }

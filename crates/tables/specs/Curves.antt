@@ -31,9 +31,9 @@ given xs (suc k) = getD xs k 0
 unfoldable pub lawful : ℕ → (ℕ → ℕ) → Bool
 lawful n f = every 1 n (λ k. leb (f (k - 1)) (f k) && leb (f k) limit)
 
--- g is nowhere above f, from 0 to n
-unfoldable pub under : ℕ → (ℕ → ℕ) → (ℕ → ℕ) → Bool
-under n f g = every 0 n (λ k. leb (g k) (f k))
+-- g is nowhere above f, from 1 to n
+unfoldable pub nowhere-above : ℕ → (ℕ → ℕ) → (ℕ → ℕ) → Bool
+nowhere-above n f g = every 1 n (λ k. leb (g k) (f k))
 
 -- min-plus convolution: the smallest f u + g (k - u), u from 0 to k
 unfoldable pub convolved : (ℕ → ℕ) → (ℕ → ℕ) → ℕ → ℕ
@@ -52,16 +52,16 @@ unfoldable pub growth : ℕ → (ℕ → ℕ) → ℕ → ℕ
 growth m h k = smallest m (λ i. h (k + i) - h i)
 
 -- the settling length: the smallest from 1 to n where f is at most g
-unfoldable pub settling : ℕ → (ℕ → ℕ) → (ℕ → ℕ) → Option ℕ
-settling n f g = first 1 n (λ k. leb (f k) (g k))
+unfoldable pub settling-length : ℕ → (ℕ → ℕ) → (ℕ → ℕ) → Option ℕ
+settling-length n f g = first 1 n (λ k. leb (f k) (g k))
 
 -- f k ≤ g (k + d) for every k from 0 to n
 unfoldable pub covers : ℕ → (ℕ → ℕ) → (ℕ → ℕ) → ℕ → Bool
 covers n f g d = every 0 n (λ k. leb (f k) (g (k + d)))
 
 -- the smallest such d from 0 to n; 0 where there is none
-unfoldable pub delay : ℕ → (ℕ → ℕ) → (ℕ → ℕ) → ℕ
-delay n f g = valueOr (first 0 n (covers n f g)) 0
+unfoldable pub shortest-delay : ℕ → (ℕ → ℕ) → (ℕ → ℕ) → ℕ
+shortest-delay n f g = valueOr (first 0 n (covers n f g)) 0
 
 -- h (a + b) ≤ h a + h b for every b from 1 to n
 unfoldable pub subadditive-at : ℕ → (ℕ → ℕ) → ℕ → Bool

@@ -4,3 +4,4 @@ pub mod Curves
 pub mod Refusals
 pub mod Tables
 pub mod Makes
+pub mod Bounds

@@ -8,6 +8,9 @@ mod checks;
 mod makes;
 mod reads;
 
+pub use checks::Given;
+pub use checks::GivenFill;
+pub use checks::is_lawful;
 pub use makes::Fill;
 
 /// An entry for each length from 1 to the frame; entry 0 is 0. The entries are laid out to twice the

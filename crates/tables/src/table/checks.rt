@@ -4,7 +4,7 @@ ghost use denote.Ref.{now};
 ghost use lib.ListN.{length};
 ghost use Rattle.tables.specs.Curves.{given, lawful};
 ghost use Rattle.tables.specs.Limits.{longest};
-ghost use Rattle.tables.specs.Makes.{answer, table-of};
+ghost use Rattle.tables.specs.Makes.{answer, table-answer};
 ghost use Rattle.tables.specs.Tables.{curve};
 use super::Fill;
 use super::Table;
@@ -12,11 +12,11 @@ use crate::Refusal;
 
 // The counts of a table from length 1 on.
 #[derive(Drop)]
-struct Given<'a> {
-    counts: &'a [u32],
+pub struct Given<'a> {
+    pub counts: &'a [u32],
 }
 
-impl Fill for Given<'_> as GivenFill {
+pub impl Fill for Given<'_> as GivenFill {
     ghost fills = { λ g. given (now (g .counts)) };
 
     fn count(&self, length: usize) -> u32 {
@@ -31,7 +31,7 @@ impl Fill for Given<'_> as GivenFill {
 }
 
 // Whether no count of the frame is smaller than the one before it or above the limit.
-pub(crate) fn is_lawful(frame: usize, counts: &[u32]) -> bool
+pub fn is_lawful(frame: usize, counts: &[u32]) -> bool
     requires { ⌜ frame ≤ longest ⌝ }
     ensures { λ r. ⌜ r ≡ lawful frame (given (now (counts .entry))) ⌝ }
 {
@@ -48,7 +48,7 @@ pub(crate) fn is_lawful(frame: usize, counts: &[u32]) -> bool
 impl Table {
     /// The table of the counts at the lengths 1, 2 and on.
     pub fn new(counts: &[u32]) -> Result<Table, Refusal>
-        ensures { λ r. ⌜ answer curve r ≡ table-of (now (counts .entry)) ⌝ }
+        ensures { λ r. ⌜ answer curve r ≡ table-answer (now (counts .entry)) ⌝ }
     {
         let frame = counts.len();
         if frame < 1 || frame > 64 {

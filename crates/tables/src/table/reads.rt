@@ -1,7 +1,7 @@
 ghost use mathlib.Core.Path.{_≡_};
 ghost use Prim.Native.Nat.{_*_, _^_, _<_, _≤_};
 ghost use Rattle.tables.specs.Limits.{longest, limit};
-ghost use Rattle.tables.specs.Tables.{at};
+ghost use Rattle.tables.specs.Tables.{at, row};
 use super::Table;
 
 impl Table {
@@ -21,6 +21,13 @@ impl Table {
         let frames = length as usize / self.frame;
         let place = length as usize % self.frame;
         frames as u64 * self.entries[self.frame] as u64 + self.entries[place] as u64
+    }
+
+    /// The entries at the lengths 1 to the frame.
+    pub fn entries(&self) -> &[u32]
+        ensures { λ r. ⌜ now r ≡ row (now (self .entry) .frame) (at (now (self .entry))) ⌝ }
+    {
+        &self.entries[1..self.frame + 1]
     }
 
     // The repeated entry at a length that is laid out.
