@@ -80,3 +80,7 @@ module _ (b : List ℕ) (whole : length b ≡ 512) where
       let same : _≡_ {A = Read} (record { kind = k; frame = getD b 1 0; most = m; least = l }) (record { kind = j; frame = getD b 1 0; most = most-bytes b; least = least-bytes b }) =
       λ i. record { kind = sym is i; frame = getD b 1 0; most = (em ∙ most-is) i; least = (el ∙ least-is) i } in
       ap Ok same ∙ sym (cond-true _ _ _ (and-from _ _ kinds (and-from _ _ (ap all-zero zeros-are ∙ zeros) (ap all-zero (sym fixed-is) ∙ fixed))))
+
+-- a part from the start of what is decoded
+pub part-of : {xs ys : List ℕ} (n : ℕ) → xs ≡ ys → take (n - 0) xs ≡ take n ys
+part-of {xs} {ys} n e = let whole : n - 0 ≡ n = omega arith in λ i. take (whole i) (e i)

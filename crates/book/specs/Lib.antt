@@ -1,3 +1,5 @@
 pub mod Sums
 pub mod Layout
 pub mod Reads
+pub mod Chains
+pub mod Books

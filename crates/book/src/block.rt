@@ -1,4 +1,5 @@
 // A block of a book.
+mod decodes;
 mod reads;
 
 /// The frame of a block and the bytes of its entries, three bytes an entry.

@@ -2,24 +2,12 @@ ghost use mathlib.Core.Path.{_≡_};
 ghost use Prim.Native.Nat.{ℕ};
 ghost use lib.ListN.{length};
 ghost use Rattle.tables.specs.Makes.{answer};
-ghost use Rattle.book.specs.Layout.{all-zero, checked};
 ghost use Rattle.book.specs.Reads.{block-read, parted-answer, read-answer};
 use super::Block;
 use super::Entries;
 use crate::sums::is_checked;
+use crate::zeros::is_zero;
 use tables::Refusal;
-
-// Whether each byte is 0.
-fn is_zero(bytes: &[u8]) -> bool
-    ensures { λ r. ⌜ r ≡ all-zero (now (bytes .entry)) ⌝ }
-{
-    for b in bytes {
-        if *b != 0 {
-            return false;
-        }
-    }
-    true
-}
 
 // Takes a block apart: `Kind` where the kind is unknown or a fixed zero is not 0.
 fn parted<'a>(block: &'a [u8]) -> Result<Block<'a>, Refusal>
@@ -67,5 +55,15 @@ impl<'a> Block<'a> {
             return Err(Refusal::Check);
         }
         parted(block)
+    }
+
+    pub fn frame(&self) -> u8
+        ensures { λ r. ⌜ r ≡ block-read (now (self .entry)) .frame ⌝ }
+    {
+        match self {
+            Block::Events(entries) => entries.frame,
+            Block::Service(entries) => entries.frame,
+            Block::Shaping(entries) => entries.frame,
+        }
     }
 }

@@ -6,7 +6,7 @@ use lib.ListN.{getD, drop}
 use Rattle.std.proofs.shelf.Lists.{at-drop-more, at-drop-all}
 use Rattle.std.proofs.shelf.Tests.{eq-eqb, ne-eqb, and-left}
 use Rattle.book.specs.Layout.{all-zero}
-use Rattle.book.proofs.block.reads.is_zero.Needs as need
+use Rattle.book.proofs.zeros.is_zero.Needs as need
 
 pub returns-then-b-ne0 : need.returns-then-b-ne0
 returns-then-b-ne0 c =
