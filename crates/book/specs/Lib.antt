@@ -3,3 +3,4 @@ pub mod Layout
 pub mod Reads
 pub mod Chains
 pub mod Books
+pub mod Text

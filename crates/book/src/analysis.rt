@@ -6,6 +6,7 @@ use tables::Refusal;
 
 mod lines;
 mod makes;
+mod sums;
 
 pub use makes::analyse;
 
@@ -23,4 +24,11 @@ pub struct Analysis {
 pub struct Refused {
     pub refusal: Refusal,
     pub block: u32,
+}
+
+/// The waits and the delays of all stages, added up.
+#[derive(Clone, Copy, PartialEq, Eq, Debug)]
+pub struct Totals {
+    pub wait: u64,
+    pub delay: u64,
 }

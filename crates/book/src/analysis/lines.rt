@@ -1,7 +1,7 @@
 ghost use mathlib.Core.Path.{_≡_};
 ghost use mathlib.Core.List.{[], _∷_, _++_, map};
-ghost use Prim.Native.Nat.{_+_, _<_};
-ghost use lib.ListN.{take};
+ghost use Prim.Native.Nat.{_+_, _<_, _≤_};
+ghost use lib.ListN.{length, take};
 ghost use Rattle.tables.specs.Tables.{curves};
 ghost use Rattle.book.specs.Books.{chained};
 ghost use Rattle.book.specs.Chains.{staged};
@@ -51,7 +51,8 @@ impl Analysis {
 
     /// A line for each block after the first, in their order.
     pub fn lines(&self) -> &[Line]
-        ensures { λ r. ⌜ map staged (now r) ≡ chained (now (self .entry)) .stages ⌝ }
+        ensures value { λ r. ⌜ map staged (now r) ≡ chained (now (self .entry)) .stages ⌝ }
+        ensures bound { λ r. ⌜ length (now r) ≤ 31 ⌝ }
     {
         &self.lines[0..self.count]
     }
