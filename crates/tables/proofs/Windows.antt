@@ -1,7 +1,7 @@
 -- What the windows of a list keep.
 use mathlib.Core.Bool.{Bool, true, false}
 use mathlib.Core.List.{List}
-use mathlib.Core.Path.{_≡_, refl, ap}
+use mathlib.Core.Path.{_≡_, sym, ap, _∙_}
 use Prim.Native.Nat.{ℕ, zero, suc, _+_, _-_, _≤_, _<_, min}
 use native.Mathlib.Omega.{arith}
 use lib.Dec.{leb}
@@ -13,7 +13,7 @@ use Rattle.tables.specs.Ranges.{every}
 use Rattle.tables.specs.Tables.{at, entry}
 use Rattle.tables.specs.declared.table.Table.{Table}
 use Rattle.tables.proofs.Frames.{under-frames}
-use Rattle.tables.proofs.Ranges.{every-each, every-some, every-out}
+use Rattle.tables.proofs.Ranges.{Left, every-each, every-some, every-skip, every-out}
 use Rattle.tables.proofs.Tables.{at-within}
 
 -- the test of a window of k counts from i on
@@ -21,10 +21,23 @@ abbrev pub Fits : (ℕ → ℕ) → List ℕ → ℕ → ℕ → Bool
 Fits f xs i k = leb (sum (recorded xs) (i + k)) (sum (recorded xs) i + f k)
 
 module _ (n : ℕ) (f : ℕ → ℕ) (xs : List ℕ) where
+  -- the windows from i on, up to the last that is inside the frame and the list
+  pub kept-last : (i last : ℕ) → last ≡ min n (length xs - i) → every 1 last (Fits f xs i) ≡ kept-from n f xs i
+  unfolding kept-from
+  kept-last i last e = ap (λ m. every 1 m (Fits f xs i)) e
+
   -- no window starts at the end
-  pub kept-end : kept-from n f xs (length xs) ≡ true
+  kept-end : kept-from n f xs (length xs) ≡ true
   unfolding kept-from
   kept-end = every-out 1 (min n (length xs - length xs)) (Fits f xs (length xs)) (omega arith)
+
+  -- a loop over the starts that has come to the end
+  pub kept-out : (i : ℕ) → i ≡ length xs → Left every 0 i (length xs) (kept-from n f xs) → true ≡ kept-by n f xs
+  unfolding kept-by
+  kept-out i e rest =
+      let p : ℕ → Bool = kept-from n f xs in
+      let m = length xs in
+      sym (rest ∙ ap (λ j. every j m p) e ∙ every-skip m m p (omega arith) kept-end ∙ every-out (m + 1) m p (omega arith))
 
   kept-short : kept-by n f xs ≡ true → (i k : ℕ) → k ≤ n → i + k ≤ length xs → sum (recorded xs) (i + k) ≤ sum (recorded xs) i + f k
   unfolding kept-by kept-from
