@@ -1,6 +1,6 @@
 -- The running sums around a circle of counts, and the largest and smallest sum of neighbours.
 use mathlib.Core.Path.{_≡_, refl, sym, ap, _∙_}
-use Prim.Native.Nat.{ℕ, zero, suc, _+_, _-_, _≤_, _<_}
+use Prim.Native.Nat.{ℕ, zero, suc, _+_, _-_, _≤_}
 use native.Mathlib.Nat.{add-mod-right, mod-eq-of-lt}
 use native.Mathlib.Omega.{arith}
 use Rattle.tables.specs.Bottoms.{slotted-most, slotted-least}

@@ -1,5 +1,5 @@
 -- Pairs by what their tables show, and that what is computed of pairs is a pair.
-use mathlib.Core.Path.{_≡_, refl, sym, ap, _∙_}
+use mathlib.Core.Path.{_≡_, sym, ap, _∙_}
 use mathlib.Core.Bool.{true}
 use Prim.Native.Nat.{ℕ, zero, suc, _+_, _-_, _≤_, _<_, min}
 use native.Mathlib.Omega.{arith}
@@ -88,9 +88,6 @@ rise-graph h =
           largest-le m (λ i. at h (h .frame + i) - at h i) limit
           (λ i _. let e : h .frame + i ≡ i + h .frame = omega arith in omega (arith, ap (at h) e, at-later h i, h .limited));
     }
-
-pub zero-graph : (n : ℕ) → 1 ≤ n → n ≤ longest → Graph n (λ _. 0)
-zero-graph n some few = record { some = some; few = few; starts = refl; rises = λ k _. omega arith; limited = omega arith }
 
 -- what a server passes: the convolution may be read from what is written out
 module _ (e s : Pair) (d : ℕ) (same : e .most .frame ≡ s .most .frame) where

@@ -2,7 +2,9 @@
 use mathlib.Core.Bool.{Bool, true, false}
 use mathlib.Core.List.{List}
 use mathlib.Core.Path.{_≡_, sym, ap, _∙_}
+use mathlib.Core.Logic.{⊎-elim}
 use Prim.Native.Nat.{ℕ, zero, suc, _+_, _-_, _≤_, _<_, min}
+use native.Mathlib.Nat.{eq-or-lt-of-le}
 use native.Mathlib.Omega.{arith}
 use lib.Dec.{leb}
 use lib.ListN.{length}
@@ -32,12 +34,17 @@ module _ (n : ℕ) (f : ℕ → ℕ) (xs : List ℕ) where
   kept-end = every-out 1 (min n (length xs - length xs)) (Fits f xs (length xs)) (omega arith)
 
   -- a loop over the starts that has come to the end
-  pub kept-out : (i : ℕ) → i ≡ length xs → Left every 0 i (length xs) (kept-from n f xs) → true ≡ kept-by n f xs
+  pub kept-out : (i : ℕ) → length xs ≤ i → Left every 0 i (length xs) (kept-from n f xs) → true ≡ kept-by n f xs
   unfolding kept-by
-  kept-out i e rest =
+  kept-out i h rest =
       let p : ℕ → Bool = kept-from n f xs in
       let m = length xs in
-      sym (rest ∙ ap (λ j. every j m p) e ∙ every-skip m m p (omega arith) kept-end ∙ every-out (m + 1) m p (omega arith))
+      let out : every i m p ≡ true =
+      ⊎-elim
+      (λ (e : m ≡ i). sym (ap (λ j. every j m p) e) ∙ every-skip m m p (omega arith) kept-end ∙ every-out (m + 1) m p (omega arith))
+      (λ (l : m < i). every-out i m p l)
+      (eq-or-lt-of-le h) in
+      sym (rest ∙ out)
 
   kept-short : kept-by n f xs ≡ true → (i k : ℕ) → k ≤ n → i + k ≤ length xs → sum (recorded xs) (i + k) ≤ sum (recorded xs) i + f k
   unfolding kept-by kept-from

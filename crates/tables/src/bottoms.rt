@@ -1,4 +1,4 @@
-// The pairs of the flows that come from nowhere else.
+// The pairs of the bottom flows: steady, clocked, slotted and recorded.
 mod clocked;
 mod recorded;
 mod slotted;

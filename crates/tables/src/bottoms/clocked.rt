@@ -9,6 +9,7 @@ use crate::pair::Pair;
 use crate::table::Fill;
 use crate::table::Table;
 
+// The most of a clock: (length + jitter) / period, rounded up.
 #[derive(Drop)]
 struct ClockedMost {
     period: u32,
@@ -30,6 +31,7 @@ impl Fill for ClockedMost as ClockedMostFill {
     }
 }
 
+// The least: (length - jitter) / period, rounded down.
 #[derive(Drop)]
 struct ClockedLeast {
     period: u32,

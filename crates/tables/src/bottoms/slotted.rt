@@ -38,6 +38,7 @@ fn running_sums(counts: &[u32]) -> [u32; 65]
     sums
 }
 
+// Sums that are written out.
 #[derive(Drop)]
 struct Running {
     sums: [u32; 65],

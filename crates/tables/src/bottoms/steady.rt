@@ -1,7 +1,7 @@
 ghost use mathlib.Core.Path.{_≡_};
 ghost use Prim.Native.Nat.{_≤_};
 ghost use Rattle.tables.specs.Bottoms.{line, steady-answer};
-ghost use Rattle.tables.specs.Limits.{longest, limit};
+ghost use Rattle.tables.specs.Limits.{limit};
 ghost use Rattle.tables.specs.Makes.{answer};
 ghost use Rattle.tables.specs.Tables.{curves};
 use crate::Refusal;
@@ -9,6 +9,7 @@ use crate::pair::Pair;
 use crate::table::Fill;
 use crate::table::Table;
 
+// The same count in every tick.
 #[derive(Drop)]
 struct Steady {
     each: u32,
@@ -35,5 +36,8 @@ pub fn steady_pair(frame: usize, count: u32) -> Result<Pair, Refusal>
         return Err(Refusal::Table);
     }
     let table = Table::of(frame, &Steady { each: count });
-    Ok(Pair { most: table, least: table })
+    Ok(Pair {
+        most: table,
+        least: table,
+    })
 }

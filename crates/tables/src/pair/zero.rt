@@ -6,6 +6,7 @@ use super::Pair;
 use crate::table::Fill;
 use crate::table::Table;
 
+// Nothing at every length.
 #[derive(Drop)]
 struct Zero;
 
@@ -17,13 +18,17 @@ impl Fill for Zero as ZeroFill {
     }
 }
 
+// The pair with 0 at every length of the frame.
 fn zero_of(frame: usize) -> Pair
     requires some { ⌜ 1 ≤ frame ⌝ }
     requires few { ⌜ frame ≤ longest ⌝ }
     ensures { λ r. ⌜ curves r ≡ paired frame (λ _. 0) (λ _. 0) ⌝ }
 {
     let zero = Table::of(frame, &Zero);
-    Pair { most: zero, least: zero }
+    Pair {
+        most: zero,
+        least: zero,
+    }
 }
 
 impl Pair {

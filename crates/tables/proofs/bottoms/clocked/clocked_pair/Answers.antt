@@ -1,7 +1,6 @@
 use mathlib.Core.Path.{_≡_, sym, ap, _∙_}
 use mathlib.Core.Bool.{true}
 use native.Mathlib.Omega.{arith}
-use borrow.Author.Needs.{needs}
 use Rattle.std.proofs.shelf.Tests.{le-leb, cond-true, and-from}
 use Rattle.std.specs.declared.result.Result.the-variants.{Ok}
 use Rattle.tables.specs.Bottoms.{timed}

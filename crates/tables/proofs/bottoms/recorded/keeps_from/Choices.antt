@@ -1,6 +1,5 @@
 use mathlib.Core.Path.{_≡_}
 use Prim.Native.Nat.{_+_, _-_, _*_, _≤_}
-use lib.Dec.{leb}
 use Rattle.tables.specs.Courses.{sum, recorded}
 use Rattle.tables.specs.Ranges.{every}
 use Rattle.tables.specs.Tables.{at}

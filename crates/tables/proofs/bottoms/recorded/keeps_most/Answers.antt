@@ -1,10 +1,9 @@
-use mathlib.Core.Path.{_≡_, sym, _∙_}
+use mathlib.Core.Path.{_≡_, sym}
 use mathlib.Core.Bool.{true, false}
 use native.Mathlib.Omega.{arith}
 use borrow.Author.Needs.{needs}
-use lib.ListN.{length}
 use Rattle.std.proofs.shelf.Tests.{true≢false, false≢true}
-use Rattle.tables.specs.Bottoms.{kept-by, kept-from}
+use Rattle.tables.specs.Bottoms.{kept-by}
 use Rattle.tables.specs.Tables.{at}
 use Rattle.tables.proofs.Ranges.{every-skip, every-miss}
 use Rattle.tables.proofs.Windows.{kept, broken, kept-out}

@@ -1,6 +1,6 @@
 use mathlib.Core.Path.{refl}
 use lib.ListN.{length}
-use Rattle.tables.specs.Courses.{sum, recorded}
+use Rattle.tables.specs.Courses.{recorded}
 use Rattle.tables.proofs.Circles.{sums-graph}
 use Rattle.tables.proofs.Curves.{graph-same}
 use Rattle.tables.proofs.Tables.{shows-to}

@@ -2,7 +2,7 @@ use mathlib.Core.Path.{refl}
 use Prim.Native.Nat.{_+_}
 use native.Mathlib.Omega.{arith}
 use lib.ListN.{length}
-use Rattle.tables.specs.Courses.{sum, recorded}
+use Rattle.tables.specs.Courses.{recorded}
 use Rattle.tables.proofs.Fills.{filled-one, filled-more}
 use Rattle.tables.proofs.Sums.{sum-more, sum-rises}
 use Rattle.tables.proofs.bottoms.slotted.running_sums.Needs as need
