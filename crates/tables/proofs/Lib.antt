@@ -3,3 +3,8 @@ pub mod Curves
 pub mod Fills
 pub mod Tables
 pub mod Pairs
+pub mod Sums
+pub mod Frames
+pub mod Clocks
+pub mod Circles
+pub mod Windows

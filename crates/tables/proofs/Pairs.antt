@@ -11,8 +11,8 @@ use Rattle.tables.specs.Tables.{entry, at, Shows, Curves, paired}
 use Rattle.tables.specs.declared.table.Table.{Table}
 use Rattle.tables.specs.declared.pair.Pair.{Pair}
 use Rattle.tables.proofs.Curves.{convolved-le, convolved-rises, convolved-under, deconvolved-ge, deconvolved-rises, deconvolved-same, excess-le, excess-rises, excess-under, growth-le, growth-rises, growth-starts}
-use Rattle.tables.proofs.Ranges.{every-each}
-use Rattle.tables.proofs.Tables.{at-le, at-rises, at-within, at-zero, shows-all}
+use Rattle.tables.proofs.Ranges.{every-each, largest-le}
+use Rattle.tables.proofs.Tables.{at-le, at-later, at-rises, at-within, at-zero, shows-all}
 
 -- what a pair keeps, of two tables by what they show
 pub keeps : {m l : Table} {n : ℕ} {f g : ℕ → ℕ} → Shows m n f → Shows l n g → ((k : ℕ) → k ≤ n → g k ≤ f k)
@@ -72,6 +72,21 @@ growth-graph h =
       starts = growth-starts (at h) m;
       rises = λ k _. growth-rises (at h) m (at-rises h) k;
       limited = omega (arith, growth-le (at h) m (h .frame), at-le h (h .frame) (omega arith));
+    }
+
+-- the largest growth of a table
+pub rise-graph : (h : Table) → Graph (h .frame) (deconvolved (h .frame - 1) (at h) (at h))
+unfolding deconvolved
+rise-graph h =
+    let m = h .frame - 1 in
+    record {
+      some = h .some;
+      few = h .few;
+      starts = let none : deconvolved m (at h) (at h) 0 ≤ 0 = largest-le m (λ i. at h (0 + i) - at h i) 0 (λ i _. let e : 0 + i ≡ i = omega arith in omega (arith, ap (at h) e)) in omega arith;
+      rises = λ k _. deconvolved-rises (at h) (at h) m (at-rises h) k;
+      limited =
+          largest-le m (λ i. at h (h .frame + i) - at h i) limit
+          (λ i _. let e : h .frame + i ≡ i + h .frame = omega arith in omega (arith, ap (at h) e, at-later h i, h .limited));
     }
 
 -- what a server passes: the convolution may be read from what is written out

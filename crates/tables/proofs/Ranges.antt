@@ -7,7 +7,7 @@ use native.Mathlib.Numerals.{add-one}
 use native.Mathlib.Omega.{arith}
 use native.Mathlib.Nat.{eq-or-lt-of-le, le-of-suc-le-suc}
 use Rattle.std.specs.Options.{isSome}
-use Rattle.std.proofs.shelf.Tests.{cond-both, both-ways, cases-bool, and-from, and-parts}
+use Rattle.std.proofs.shelf.Tests.{cond-both, both-ways, cases-bool, and-from, and-parts, and-cases}
 use Rattle.std.specs.declared.option.Option.the-variants.{Some, None}
 use Rattle.tables.specs.Ranges.{largest, smallest, seek, first, all, every}
 
@@ -151,6 +151,23 @@ module _ (p : ℕ → Bool) where
   pub every-each : (a b : ℕ) → every a b p ≡ true → (j : ℕ) → a ≤ j → j ≤ b → p j ≡ true
   unfolding every
   every-each a b h j low high = all-each a (suc b - a) h j low (omega arith)
+
+-- where not each passes, some number of the range does not
+module _ (p : ℕ → Bool) where
+  all-some : (k n : ℕ) → all k n p ≡ false → (j : ℕ) × (k ≤ j) × (j < k + n) × (p j ≡ false)
+  unfolding all
+  all-some k zero h = absurd (both-ways true h refl)
+  all-some k (suc n) h =
+      ⊎-elim
+      (λ (here : p k ≡ false). (k, omega arith, omega arith, here))
+      (λ (past : all (suc k) n p ≡ false).
+      let (j, low, high, is) = all-some (suc k) n past in
+      (j, omega arith, omega arith, is))
+      (and-cases (p k) (all (suc k) n p) h)
+
+  pub every-some : (a b : ℕ) → every a b p ≡ false → (j : ℕ) × (a ≤ j) × (j ≤ b) × (p j ≡ false)
+  unfolding every
+  every-some a b h = let (j, low, high, is) = all-some a (suc b - a) h in (j, low, omega arith, is)
 
 module _ (p : ℕ → Bool) where
   seek-least : (k n j i : ℕ) → seek k n p ≡ Some j → k ≤ i → p i ≡ true → j ≤ i

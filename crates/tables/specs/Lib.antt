@@ -1,7 +1,9 @@
 pub mod Limits
 pub mod Ranges
+pub mod Courses
 pub mod Curves
 pub mod Refusals
 pub mod Tables
 pub mod Makes
 pub mod Bounds
+pub mod Bottoms

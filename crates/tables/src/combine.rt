@@ -2,12 +2,13 @@
 ghost use denote.Ref.{now};
 ghost use mathlib.Core.Path.{_≡_};
 ghost use Prim.Native.Nat.{ℕ, _+_, _-_, _≤_};
-ghost use Rattle.tables.specs.Curves.{convolved, excess, growth};
+ghost use Rattle.tables.specs.Curves.{convolved, deconvolved, excess, growth};
 ghost use Rattle.tables.specs.Limits.{limit};
 ghost use Rattle.tables.specs.Tables.{at, Shows};
 use crate::sweeps::convolved_at;
 use crate::sweeps::excess_at;
 use crate::sweeps::growth_at;
+use crate::sweeps::rise_at;
 use crate::table::Fill;
 use crate::table::Table;
 
@@ -72,6 +73,26 @@ pub fn growth_table(h: &Table) -> Table
     ensures { λ r. ⌜ Shows r (now (h .entry) .frame) (growth (now (h .entry) .frame - 1) (at (now (h .entry)))) ⌝ }
 {
     Table::of(h.frame(), &Growth { h })
+}
+
+#[derive(Drop)]
+struct Rise<'a> {
+    h: &'a Table,
+}
+
+impl Fill for Rise<'_> as RiseFill {
+    ghost fills = { λ s. deconvolved (now (s .h) .frame - 1) (at (now (s .h))) (at (now (s .h))) };
+
+    fn count(&self, length: usize) -> u32 {
+        rise_at(self.h, self.h.frame() - 1, length)
+    }
+}
+
+// The largest growth of a table, at each length.
+pub fn rise_table(h: &Table) -> Table
+    ensures { λ r. ⌜ Shows r (now (h .entry) .frame) (deconvolved (now (h .entry) .frame - 1) (at (now (h .entry))) (at (now (h .entry)))) ⌝ }
+{
+    Table::of(h.frame(), &Rise { h })
 }
 
 #[derive(Drop)]

@@ -1,4 +1,5 @@
-// Tables of message counts, and the bounds that a server, a shaper and a join make of them.
+// Tables of message counts, those of the bottom flows, and the bounds that a server, a shaper and a join make of them.
+mod bottoms;
 mod bounds;
 mod combine;
 mod join;
@@ -9,6 +10,10 @@ mod shaper;
 mod sweeps;
 mod table;
 
+pub use bottoms::clocked_pair;
+pub use bottoms::keeps_most;
+pub use bottoms::slotted_pair;
+pub use bottoms::steady_pair;
 pub use bounds::ServerBounds;
 pub use bounds::ShaperBounds;
 pub use join::joined;

@@ -5,6 +5,7 @@ ghost use lib.ListN.{getD};
 use crate::table::Table;
 
 mod makes;
+mod zero;
 
 /// Two tables of one frame: the most and the fewest messages in any window. The least is nowhere above
 /// the most.

@@ -69,6 +69,19 @@ pub fn growth_at(h: &Table, last: usize, k: usize) -> u32
     best
 }
 
+// The largest h(k + i) - h(i), i from 0 to last.
+pub fn rise_at(h: &Table, last: usize, k: usize) -> u32
+    requires few { ⌜ last < longest ⌝ }
+    requires short { ⌜ k ≤ longest ⌝ }
+    ensures { λ r. ⌜ r ≡ deconvolved last (at (now (h .entry))) (at (now (h .entry))) k ⌝ }
+{
+    let mut best = h.near(k).saturating_sub(h.near(0));
+    for i in 1..last + 1 {
+        best = best.max(h.near(k + i).saturating_sub(h.near(i)));
+    }
+    best
+}
+
 // The smallest length of the frame at which a is at most b.
 pub fn settling_of(a: &Table, b: &Table) -> Option<usize>
     ensures value { λ r. ⌜ r ≡ settling-length (now (a .entry) .frame) (at (now (a .entry))) (at (now (b .entry))) ⌝ }
