@@ -1,0 +1,4 @@
+pub mod Courses
+pub mod Steps
+pub mod Bottoms
+pub mod Claims
