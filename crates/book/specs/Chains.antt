@@ -14,8 +14,8 @@ use Rattle.tables.specs.declared.refusal.Refusal.the-variants.{Kind, Frame, Tab
 use Rattle.book.specs.Layout.{all-zero, entries}
 use Rattle.book.specs.Reads.{Read, read-answer}
 use Rattle.book.specs.declared.line.Line.{Line}
-use Rattle.book.specs.declared.line.Stage.{Stage}
-use Rattle.book.specs.declared.line.Stage.the-variants.{Server, Shaper, Join}
+use Rattle.tables.specs.declared.bounds.StageKind.{StageKind}
+use Rattle.tables.specs.declared.bounds.StageKind.the-variants.{Server, Shaper, Join}
 
 -- what follows of a value, or its refusal
 abbrev pub and-then : {X Y : Type 0} → Result X Refusal → (X → Result Y Refusal) → Result Y Refusal
@@ -46,7 +46,7 @@ block-table r =
 
 -- a stage of the chain: its kind, its bounds, and the pair that it hands on
 pub record Staged : Type 0 where
-  pub stage : Stage
+  pub stage : StageKind
   pub wait : ℕ
   pub delay : ℕ
   pub pair : Curves

@@ -6,12 +6,11 @@ use lib.Chars.{codes}
 use Rattle.std.specs.Written.{decimal, joined}
 use Rattle.std.specs.declared.result.Result.{Result}
 use Rattle.std.specs.declared.result.Result.the-variants.{Ok, Err}
+use Rattle.tables.specs.Kinds.{kind-word}
 use Rattle.tables.specs.Refusals.{number-of}
 use Rattle.tables.specs.Tables.{Curves, row}
 use Rattle.book.specs.Books.{Chained, Turned}
 use Rattle.book.specs.Chains.{Staged}
-use Rattle.book.specs.declared.line.Stage.{Stage}
-use Rattle.book.specs.declared.line.Stage.the-variants.{Server, Shaper, Join}
 
 -- each number in decimal, after one space
 abbrev pub spaced : List ℕ → List ℕ
@@ -25,18 +24,13 @@ most-text p = spaced (row (p .frame) (p .most))
 abbrev pub least-text : Curves → List ℕ
 least-text p = spaced (row (p .frame) (p .least))
 
-abbrev pub stage-text : Stage → List ℕ
-stage-text Server = codes "server"
-stage-text Shaper = codes "shaper"
-stage-text Join = codes "join"
-
 -- as "frame 2", and then "1 events most 2 3 least 0 1"
 abbrev pub first-text : Curves → List ℕ
 first-text p = joined (codes "frame " ∷ decimal (p .frame) ∷ codes "\n1 events most" ∷ most-text p ∷ codes " least" ∷ least-text p ∷ codes "\n" ∷ [])
 
 -- as "2 server most 2 3 least 0 1 wait 2 delay 2"
 abbrev pub line-text : ℕ → Staged → List ℕ
-line-text place s = joined (decimal place ∷ codes " " ∷ stage-text (s .stage) ∷ codes " most" ∷ most-text (s .pair) ∷ codes " least" ∷ least-text (s .pair) ∷ codes " wait " ∷ decimal (s .wait) ∷ codes " delay " ∷ decimal (s .delay) ∷ codes "\n" ∷ [])
+line-text place s = joined (decimal place ∷ codes " " ∷ kind-word (s .stage) ∷ codes " most" ∷ most-text (s .pair) ∷ codes " least" ∷ least-text (s .pair) ∷ codes " wait " ∷ decimal (s .wait) ∷ codes " delay " ∷ decimal (s .delay) ∷ codes "\n" ∷ [])
 
 -- the lines of the blocks from place n on
 abbrev pub lines-text : ℕ → List Staged → List ℕ

@@ -7,9 +7,9 @@ ghost use Rattle.book.specs.Reads.{read-as};
 use crate::block::Block;
 use crate::block::Entries;
 use crate::line::Line;
-use crate::line::Stage;
 use tables::Pair;
 use tables::Refusal;
+use tables::StageKind;
 use tables::joined;
 use tables::server_bounds;
 use tables::shaper_bounds;
@@ -20,7 +20,7 @@ fn join_line(chain: &Pair, entries: &Entries<'_>) -> Result<Line, Refusal>
     let events = entries.pair()?;
     let pair = joined(chain, &events)?;
     Ok(Line {
-        stage: Stage::Join,
+        stage: StageKind::Join,
         wait: 0,
         delay: 0,
         pair,
@@ -33,7 +33,7 @@ fn server_line(chain: &Pair, entries: &Entries<'_>) -> Result<Line, Refusal>
     let service = entries.pair()?;
     let bounds = server_bounds(chain, &service)?;
     Ok(Line {
-        stage: Stage::Server,
+        stage: StageKind::Server,
         wait: bounds.wait,
         delay: bounds.delay,
         pair: bounds.passed,
@@ -46,7 +46,7 @@ fn shaper_line(chain: &Pair, entries: &Entries<'_>) -> Result<Line, Refusal>
     let shaping = entries.table()?;
     let bounds = shaper_bounds(chain, &shaping)?;
     Ok(Line {
-        stage: Stage::Shaper,
+        stage: StageKind::Shaper,
         wait: bounds.wait,
         delay: bounds.delay,
         pair: bounds.passed,

@@ -6,15 +6,15 @@ ghost use Rattle.std.specs.declared.option.Option.the-variants.{Some};
 ghost use Rattle.tables.specs.Tables.{curves};
 ghost use Rattle.book.specs.Books.{chained, turned};
 ghost use Rattle.book.specs.Chains.{staged};
-ghost use Rattle.book.specs.Text.{spaced, stage-text, first-text, line-text, lines-text, totals-text, listing-text, refused-text};
+ghost use Rattle.book.specs.Text.{spaced, first-text, line-text, lines-text, totals-text, listing-text, refused-text};
 use crate::analysis::Analysis;
 use crate::analysis::Refused;
 use crate::analysis::Totals;
 use crate::line::Line;
-use crate::line::Stage;
 use std::fmt;
 use std::fmt::Display;
 use tables::Pair;
+use tables::StageKindDisplay;
 
 // Counts in a row, each after one space.
 #[derive(Clone, Copy)]
@@ -30,18 +30,6 @@ impl fmt::Display for Row<'_> as RowDisplay {
             write!(f, " {count}")?;
         }
         Ok(())
-    }
-}
-
-pub impl fmt::Display for Stage as StageDisplay {
-    ghost shown = { λ s. Some (stage-text s) };
-
-    fn fmt<W: fmt::Write>(&self, f: &mut fmt::Formatter<W>) -> fmt::Result {
-        match self {
-            Stage::Server => f.write_str("server"),
-            Stage::Shaper => f.write_str("shaper"),
-            Stage::Join => f.write_str("join"),
-        }
     }
 }
 

@@ -3,6 +3,7 @@ pub mod Ranges
 pub mod Courses
 pub mod Curves
 pub mod Refusals
+pub mod Kinds
 pub mod Tables
 pub mod Makes
 pub mod Bounds

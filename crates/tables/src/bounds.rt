@@ -1,6 +1,18 @@
 // The bounds of a stage.
 use crate::pair::Pair;
 
+mod names;
+
+pub use names::StageKindDisplay;
+
+/// The kinds of stages.
+#[derive(Clone, Copy, PartialEq, Eq, Debug)]
+pub enum StageKind {
+    Server,
+    Shaper,
+    Join,
+}
+
 /// What a server makes of its events and its service.
 #[derive(Clone, Copy)]
 pub struct ServerBounds {

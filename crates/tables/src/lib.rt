@@ -16,6 +16,8 @@ pub use bottoms::slotted_pair;
 pub use bottoms::steady_pair;
 pub use bounds::ServerBounds;
 pub use bounds::ShaperBounds;
+pub use bounds::StageKind;
+pub use bounds::StageKindDisplay;
 pub use join::joined;
 pub use pair::Pair;
 pub use refusal::Refusal;

@@ -7,8 +7,8 @@ ghost use Rattle.book.specs.Books.{chained};
 ghost use Rattle.book.specs.Chains.{staged};
 use super::Analysis;
 use crate::line::Line;
-use crate::line::Stage;
 use tables::Pair;
+use tables::StageKind;
 
 impl Analysis {
     // A chain of its first block alone.
@@ -18,7 +18,7 @@ impl Analysis {
         ensures count { λ r. ⌜ r .count ≡ 0 ⌝ }
     {
         let blank = Line {
-            stage: Stage::Join,
+            stage: StageKind::Join,
             wait: 0,
             delay: 0,
             pair: first,
