@@ -1,0 +1,9 @@
+// Flows of counts, tick by tick.
+mod bounds;
+mod flow;
+mod steady;
+
+pub use bounds::StageBounds;
+pub use flow::Flow;
+pub use steady::Steady;
+pub use steady::SteadyFlow;
