@@ -6,7 +6,7 @@ ghost use lib.ListN.{getD};
 ghost use Rattle.std.specs.Vec.{made};
 ghost use Rattle.tables.specs.Bounds.{passed-pair, rest-pair, serving, server-answer};
 ghost use Rattle.tables.specs.Curves.{deconvolved, passed-most, Settles, Shortest};
-ghost use Rattle.tables.specs.Limits.{longest};
+ghost use Rattle.tables.specs.Limits.{longest, limit};
 ghost use Rattle.tables.specs.Makes.{answer};
 ghost use Rattle.tables.specs.Tables.{at, curves, Shows};
 use crate::Refusal;
@@ -81,6 +81,7 @@ pub fn server_bounds(events: &Pair, service: &Pair) -> Result<ServerBounds, Refu
     ensures value { λ r. ⌜ answer serving r ≡ server-answer (curves (now (events .entry))) (curves (now (service .entry))) ⌝ }
     ensures settles { λ r. ⌜ made r (λ b. Settles (now (events .entry) .most .frame) (at (now (events .entry) .most)) (at (now (service .entry) .least)) (b .settling)) ⌝ }
     ensures shortest { λ r. ⌜ made r (λ b. Shortest (b .settling) (at (now (events .entry) .most)) (at (now (service .entry) .least)) (b .delay)) ⌝ }
+    ensures bound { λ r. ⌜ made r (λ b. b .wait ≤ limit) ⌝ }
 {
     if events.most.frame() != service.most.frame() {
         return Err(Refusal::Frame);

@@ -4,6 +4,7 @@ ghost use Prim.Native.Nat.{ℕ, _≤_};
 ghost use Rattle.std.specs.Vec.{made};
 ghost use Rattle.tables.specs.Bounds.{shaped-pair, shaping, shaper-answer};
 ghost use Rattle.tables.specs.Curves.{Shortest};
+ghost use Rattle.tables.specs.Limits.{limit};
 ghost use Rattle.tables.specs.Makes.{answer};
 ghost use Rattle.tables.specs.Tables.{at, curve, curves};
 use crate::Refusal;
@@ -32,6 +33,7 @@ fn shaped(events: &Pair, h: &Table) -> Pair
 pub fn shaper_bounds(events: &Pair, h: &Table) -> Result<ShaperBounds, Refusal>
     ensures value { λ r. ⌜ answer shaping r ≡ shaper-answer (curves (now (events .entry))) (curve (now (h .entry))) ⌝ }
     ensures shortest { λ r. ⌜ made r (λ b. Shortest (now (events .entry) .most .frame) (at (now (events .entry) .most)) (at (now (h .entry))) (b .delay)) ⌝ }
+    ensures bound { λ r. ⌜ made r (λ b. b .wait ≤ limit) ⌝ }
 {
     let frame = events.most.frame();
     if frame != h.frame() {

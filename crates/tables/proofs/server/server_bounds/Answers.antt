@@ -8,8 +8,8 @@ use Rattle.std.specs.declared.result.Result.the-variants.{Ok}
 use Rattle.tables.specs.Bounds.{Serving, if-settled, settled}
 use Rattle.tables.specs.Curves.{settling-length, Shortest}
 use Rattle.tables.specs.Tables.{at, curves}
-use Rattle.tables.proofs.Curves.{settling-settles, delay-shortest}
-use Rattle.tables.proofs.Tables.{at-rises}
+use Rattle.tables.proofs.Curves.{settling-settles, delay-shortest, excess-le}
+use Rattle.tables.proofs.Tables.{at-le, at-rises}
 use Rattle.tables.proofs.server.server_bounds.Needs as need
 
 pub returns : need.returns
@@ -26,4 +26,5 @@ returns c =
       value = ap Ok made ∙ sym (cond-true _ _ _ same ∙ ap (if-settled (curves e) (curves s)) is);
       settles = settles;
       shortest = rw (c .delay-of .ensures .value) (delay-shortest d (at (e .most)) (at (s .least)) (at-rises (e .most)) (at-rises (s .least)) (settles .settled));
+      bound = omega (arith, c .excess-at .ensures, excess-le (at (e .most)) (at (s .least)) d (at-rises (e .most)), at-le (e .most) d (settles .within));
     }

@@ -9,8 +9,8 @@ use Rattle.std.specs.declared.result.Result.the-variants.{Ok}
 use Rattle.tables.specs.Bounds.{Shaping, shaped}
 use Rattle.tables.specs.Curves.{shortest-delay, subadditive, excess}
 use Rattle.tables.specs.Tables.{at, curve, curves}
-use Rattle.tables.proofs.Curves.{delay-shortest}
-use Rattle.tables.proofs.Tables.{at-rises}
+use Rattle.tables.proofs.Curves.{delay-shortest, excess-le}
+use Rattle.tables.proofs.Tables.{at-le, at-rises}
 use Rattle.tables.proofs.shaper.shaper_bounds.Needs as need
 
 pub returns : need.returns
@@ -31,4 +31,5 @@ returns c =
     record {
       value = ap Ok made ∙ sym (cond-true _ _ _ same ∙ cond-true _ _ _ shape ∙ cond-true _ _ _ (le-leb (f n) (g n) fits));
       shortest = rw delay (delay-shortest n f g (at-rises (e .most)) (at-rises h) fits);
+      bound = omega (arith, wait, excess-le f g n (at-rises (e .most)), at-le (e .most) n (omega arith));
     }

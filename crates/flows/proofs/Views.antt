@@ -1,0 +1,51 @@
+-- A stage one tick later keeps its bounds too.
+use mathlib.Core.List.{List, [], _∷_, _++_, map}
+use mathlib.Core.Path.{_≡_, refl, sym, ap, subst, fun-ext}
+use Prim.Native.Nat.{ℕ, zero, suc, _+_, _≤_}
+use native.Mathlib.Omega.{arith}
+use Rattle.std.specs.Slices.{found}
+use Rattle.std.specs.declared.option.Option.{Option}
+use Rattle.std.specs.declared.option.Option.the-variants.{Some, None}
+use Rattle.tables.specs.Courses.{sum, later}
+use Rattle.tables.specs.declared.pair.Pair.{Pair}
+use Rattle.courses.specs.Courses.{Keeps, SameTo}
+use Rattle.courses.proofs.Sums.{keeps-later, keeps-same}
+use Rattle.flows.specs.Views.{KeepsPair, tail, View, Fine, Idle, next-view, All}
+
+-- one tick on
+pub later-tail : {X : Type 0} (a : ℕ → X) → later 1 a ≡ tail a
+later-tail a = fun-ext (λ t. let e : 1 + t ≡ suc t = omega arith in ap a e)
+
+pub sum-tail : (a : ℕ → ℕ) (t : ℕ) → sum a (suc t) ≡ a 0 + sum (tail a) t
+sum-tail a zero = omega arith
+sum-tail a (suc t) = omega (arith, sum-tail a t)
+
+pub keeps-tail : {most least a : ℕ → ℕ} → Keeps most least a → Keeps most least (tail a)
+keeps-tail {most} {least} {a} K = record {
+  to = λ T. keeps-same (record { each = λ t _. let e : 1 + t ≡ suc t = omega arith in ap a e }) (keeps-later 1 (K .to (1 + T)));
+}
+
+found-by : (o : Option Pair) (P Q : Pair → Type 0) → ((p : Pair) → P p → Q p) → found o P → found o Q
+found-by None P Q f h = tt
+found-by (Some p) P Q f h = f p h
+
+pub fine-next : (v : View) → Fine v → Fine (next-view v)
+fine-next v F = record {
+  account = λ t. F .account (suc t);
+  few = λ t. F .few (suc t);
+  within = λ t. F .within (suc t);
+  keeps = keeps-tail (F .keeps);
+  rests = found-by (v .bounds .rest) (λ p. KeepsPair p (v .rest)) (λ p. KeepsPair p (tail (v .rest))) (λ p. keeps-tail) (F .rests);
+  out = λ t.
+      let d = v .bounds .delay in
+      let e : suc t + d ≡ suc (t + d) = omega arith in
+      omega (arith, F .out (suc t), F .account 0, sum-tail (v .arrived) t, sum-tail (v .passed) (t + d), ap (sum (v .passed)) e);
+}
+
+pub all-next : (vs : List View) → All Fine vs → All Fine (map next-view vs)
+all-next [] h = tt
+all-next (v ∷ vs) h = (fine-next v (h .0), all-next vs (h .1))
+
+pub all-append : {X : Type 0} (P : X → Type 0) (xs ys : List X) → All P xs → All P ys → All P (xs ++ ys)
+all-append P [] ys h k = k
+all-append P (x ∷ xs) ys h k = (h .0, all-append P xs ys (h .1) k)

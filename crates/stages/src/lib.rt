@@ -1,0 +1,4 @@
+// Servers, shapers and joins over flows.
+mod server;
+
+pub use server::Server;
