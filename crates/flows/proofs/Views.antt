@@ -1,16 +1,18 @@
 -- A stage one tick later keeps its bounds too.
 use mathlib.Core.List.{List, [], _∷_, _++_, map}
 use mathlib.Core.Path.{_≡_, refl, sym, ap, subst, fun-ext}
-use Prim.Native.Nat.{ℕ, zero, suc, _+_, _≤_}
+use Prim.Native.Nat.{ℕ, zero, suc, _+_, _-_, _≤_}
 use native.Mathlib.Omega.{arith}
 use Rattle.std.specs.Slices.{found}
 use Rattle.std.specs.declared.option.Option.{Option}
 use Rattle.std.specs.declared.option.Option.the-variants.{Some, None}
+use Rattle.std.specs.declared.result.Result.the-variants.{Ok, Err}
 use Rattle.tables.specs.Courses.{sum, later}
 use Rattle.tables.specs.declared.pair.Pair.{Pair}
 use Rattle.courses.specs.Courses.{Keeps, SameTo}
 use Rattle.courses.proofs.Sums.{keeps-later, keeps-same}
-use Rattle.flows.specs.Views.{KeepsPair, tail, View, Fine, Idle, next-view, All}
+use Rattle.flows.specs.Views.{KeepsPair, tail, View, Fine, Idle, next-view, All, look}
+use Rattle.flows.specs.declared.bounds.StageBounds.{StageBounds}
 
 -- one tick on
 pub later-tail : {X : Type 0} (a : ℕ → X) → later 1 a ≡ tail a
@@ -49,3 +51,18 @@ all-next (v ∷ vs) h = (fine-next v (h .0), all-next vs (h .1))
 pub all-append : {X : Type 0} (P : X → Type 0) (xs ys : List X) → All P xs → All P ys → All P (xs ++ ys)
 all-append P [] ys h k = k
 all-append P (x ∷ xs) ys h k = (h .0, all-append P xs ys (h .1) k)
+
+-- looking further down
+pub look-past : (v : View) (vs : List View) (k : ℕ) → 1 ≤ k → look (v ∷ vs) k ≡ look vs (k - 1)
+look-past v vs zero h = absurd (omega arith)
+look-past v vs (suc k) h = let e : k ≡ suc k - 1 = omega arith in ap (look vs) e
+
+pub look-first : (us vs : List View) (k : ℕ) (b : StageBounds) → look us k ≡ Ok b → look (us ++ vs) k ≡ Ok b
+look-first [] vs k b h = let z : _≡_ {A = ℕ} 0 1 = cc in absurd (omega arith)
+look-first (u ∷ us) vs zero b h = h
+look-first (u ∷ us) vs (suc k) b h = look-first us vs k b h
+
+pub look-second : (us vs : List View) (k j : ℕ) → look us k ≡ Err j → look (us ++ vs) k ≡ look vs j
+look-second [] vs k j h = let e : k ≡ j = cc in ap (look vs) e
+look-second (u ∷ us) vs zero j h = let z : _≡_ {A = ℕ} 0 1 = cc in absurd (omega arith)
+look-second (u ∷ us) vs (suc k) j h = look-second us vs k j h

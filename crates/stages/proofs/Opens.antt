@@ -2,7 +2,7 @@
 use mathlib.Core.Bool.{Bool, true, false}
 use mathlib.Core.List.{List, [], _∷_, _++_, map}
 use mathlib.Core.Path.{_≡_, refl, sym, ap, subst, _∙_}
-use Prim.Native.Nat.{ℕ, zero, suc, _+_, _*_, _/_, _≤_}
+use Prim.Native.Nat.{ℕ, zero, suc, _+_, _-_, _*_, _/_, _≤_}
 use native.Mathlib.Nat.{mul-zero}
 use native.Mathlib.Omega.{arith}
 use Rattle.std.specs.Slices.{found}
@@ -15,9 +15,10 @@ use Rattle.tables.specs.Limits.{limit}
 use Rattle.tables.specs.Tables.{Curves, at, curves, paired}
 use Rattle.tables.proofs.Tables.{at-le}
 use Rattle.tables.specs.declared.pair.Pair.{Pair}
-use Rattle.flows.specs.Views.{View, Fine, Idle, All, KeepsPair, tail, next-view}
+use Rattle.flows.specs.Views.{View, Fine, Idle, All, KeepsPair, tail, next-view, look}
 use Rattle.flows.specs.declared.bounds.StageBounds.{StageBounds}
 use Rattle.flows.specs.declared.flow.Flow.{Ghosts}
+use Rattle.flows.proofs.Views.{look-past}
 use Rattle.stages.specs.Opens.{open-course, open-count, open-views}
 
 -- a draw from x to y that answers r
@@ -96,3 +97,7 @@ closed-all P false vs is = tt
 -- what holds of two pairs holds of the pairs that they are
 pub both : (P : Pair → Pair → Type 0) {p o q r : Pair} → p ≡ o → q ≡ r → P p q → P o r
 both P {p} {o} {q} {r} ep eq h = subst (λ x. P x r) ep (subst (P p) eq h)
+
+-- looking below an open stage
+pub look-open : (v : View) {b : Bool} (vs : List View) (k : ℕ) → b ≡ true → 1 ≤ k → look (v ∷ open-views b vs) k ≡ look vs (k - 1)
+look-open v {b} vs k is some = look-past v (open-views b vs) k some ∙ ap (λ c. look (open-views c vs) (k - 1)) is

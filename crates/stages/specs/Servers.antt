@@ -59,9 +59,12 @@ module _ {X Y : Type 0} (E : Ghosts X) (S : Ghosts Y) where
     bounds = server-figures (s .bounds);
   }
 
-  -- the stages of the network from this one down
+  -- the stages below, and all from this one down
+  abbrev pub server-below : Server X Y → List View
+  server-below s = open-views (s .«is_open») (E .views (s .events) ++ S .views (s .service))
+
   abbrev pub server-views : Server X Y → List View
-  server-views s = server-view s ∷ open-views (s .«is_open») (E .views (s .events) ++ S .views (s .service))
+  server-views s = server-view s ∷ server-below s
 
   -- what each state that can be reached has
   pub record ServerSound (s : Server X Y) : Type 0 where

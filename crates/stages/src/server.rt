@@ -5,7 +5,12 @@ use flows::Flow;
 use tables::ServerBounds;
 
 mod builds;
+mod runs;
+mod reads;
 mod ticks;
+
+pub use runs::ServerFlow;
+pub use runs::ServerStage;
 
 /// A server passes, in each tick, as many of the waiting and arriving events as its service has places.
 #[derive(Drop)]

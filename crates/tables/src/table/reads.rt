@@ -23,6 +23,14 @@ impl Table {
         frames as u64 * self.entries[self.frame] as u64 + self.entries[place] as u64
     }
 
+    /// The entry at length 1.
+    pub fn first(&self) -> u32
+        ensures value { λ r. ⌜ r ≡ at (now (self .entry)) 1 ⌝ }
+        ensures bound { λ r. ⌜ r ≤ limit ⌝ }
+    {
+        self.near(1)
+    }
+
     /// The entries at the lengths 1 to the frame.
     pub fn entries(&self) -> &[u32]
         ensures { λ r. ⌜ now r ≡ row (now (self .entry) .frame) (at (now (self .entry))) ⌝ }
