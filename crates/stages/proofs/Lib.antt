@@ -1,3 +1,4 @@
 pub mod Opens
 pub mod Serving
 pub mod Fitting
+pub mod Joining
