@@ -6,8 +6,6 @@ use Prim.Native.Nat.{ℕ, zero, suc, _+_, _-_, _*_, _/_, _≤_}
 use native.Mathlib.Nat.{mul-zero}
 use native.Mathlib.Omega.{arith}
 use Rattle.std.specs.Slices.{found}
-use Rattle.std.specs.declared.option.Option.{Option}
-use Rattle.std.specs.declared.option.Option.the-variants.{Some, None}
 use Rattle.std.proofs.shelf.Tests.{true≢false}
 use Rattle.tables.specs.Courses.{sum}
 use Rattle.tables.specs.Curves.{repeated}
@@ -68,23 +66,23 @@ closed-keeps n p is = record {
   };
 }
 
+pub closed-course : (n : ℕ) (b : Bool) (r : ℕ → ℕ) (p : Pair) → b ≡ false → curves p ≡ paired n (λ _. 0) (λ _. 0) → KeepsPair p (open-course b r)
+closed-course n true r p is zeros = absurd (true≢false is)
+closed-course n false r p is zeros = closed-keeps n p zeros
+
 -- a closed stage keeps its bounds, whatever was to come
 pub closed-fine : (n : ℕ) (b : Bool) (a p r q : ℕ → ℕ) (m : ℕ) (f : StageBounds) → b ≡ false
-    → curves (f .pair) ≡ paired n (λ _. 0) (λ _. 0) → found (f .rest) (λ o. curves o ≡ paired n (λ _. 0) (λ _. 0))
-    → Fine (record { arrived = open-course b a; passed = open-course b p; rest = open-course b r; waits = open-course b q; arriving = open-count b m; bounds = f })
-closed-fine n true a p r q m f is zero-pair zero-rest = absurd (true≢false is)
-closed-fine n false a p r q m f is zero-pair zero-rest = record {
+    → curves (f .pair) ≡ paired n (λ _. 0) (λ _. 0) → found (f .rest) (λ o. KeepsPair o r)
+    → Fine (record { arrived = open-course b a; passed = open-course b p; rest = r; waits = open-course b q; arriving = open-count b m; bounds = f })
+closed-fine n true a p r q m f is zeros rests = absurd (true≢false is)
+closed-fine n false a p r q m f is zeros rests = record {
   account = λ t. refl;
   few = λ t. omega arith;
   within = λ t. omega arith;
-  keeps = closed-keeps n (f .pair) zero-pair;
-  rests = found-keeps (f .rest) zero-rest;
+  keeps = closed-keeps n (f .pair) zeros;
+  rests = rests;
   out = λ t. omega (arith, sum-zeros t);
 }
-  where
-    found-keeps : (o : Option Pair) → found o (λ o. curves o ≡ paired n (λ _. 0) (λ _. 0)) → found o (λ o. KeepsPair o (λ _. 0))
-    found-keeps None h = tt
-    found-keeps (Some o) h = closed-keeps n o h
 
 pub closed-idle : (b : Bool) (q : ℕ → ℕ) → b ≡ false → open-course b q 0 ≡ 0
 closed-idle true q is = absurd (true≢false is)

@@ -1,3 +1,4 @@
 pub mod Opens
 pub mod Servers
 pub mod Joins
+pub mod Shapers

@@ -2,6 +2,7 @@
 mod join;
 mod rest;
 mod server;
+mod shaper;
 mod stage;
 
 pub use join::Join;
@@ -12,5 +13,8 @@ pub use rest::RestFlow;
 pub use server::Server;
 pub use server::ServerFlow;
 pub use server::ServerStage;
+pub use shaper::Shaper;
+pub use shaper::ShaperFlow;
+pub use shaper::ShaperStage;
 pub use stage::Counts;
 pub use stage::Stage;

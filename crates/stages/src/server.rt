@@ -5,8 +5,8 @@ use flows::Flow;
 use tables::ServerBounds;
 
 mod builds;
-mod runs;
 mod reads;
+mod runs;
 mod ticks;
 
 pub use runs::ServerFlow;

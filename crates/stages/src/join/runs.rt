@@ -98,7 +98,11 @@ pub impl<A: Flow + Drop, B: Flow + Drop> Stage for Join<A, B> as JoinStage {
     }
 
     fn arriving(&self) -> u32 {
-        if self.is_open { self.pair.most.first() } else { 0 }
+        if self.is_open {
+            self.pair.most.first()
+        } else {
+            0
+        }
     }
 
     fn figures(&self) -> StageBounds {

@@ -15,7 +15,7 @@ use Rattle.flows.specs.Views.{All, Idle, Fine}
 use Rattle.flows.proofs.Views.{all-append}
 use Rattle.stages.specs.Servers.{fits, server-figures, serving-or-closed}
 use Rattle.stages.proofs.Fitting.{open-fine}
-use Rattle.stages.proofs.Opens.{both, closed-fine, closed-idle, closed-all}
+use Rattle.stages.proofs.Opens.{both, closed-course, closed-fine, closed-idle, closed-all}
 use Rattle.stages.proofs.server.Server.build.Needs as need
 
 pub returns : need.returns
@@ -70,7 +70,7 @@ returns-in-rest g c =
         events = subst (E .sound) (sym (c .closed .ensures .events)) (c .pre .events);
         service = subst (S .sound) (sym (c .closed .ensures .service)) (c .pre .service);
         fine = (
-          closed-fine (E .pair x .most .frame) (s .«is_open») _ _ _ _ _ (server-figures (s .bounds)) is (ap (λ q. q .passed) zeros) (ap (λ q. q .rest) zeros),
+          closed-fine (E .pair x .most .frame) (s .«is_open») _ _ _ _ _ (server-figures (s .bounds)) is (ap (λ q. q .passed) zeros) (closed-course (E .pair x .most .frame) (s .«is_open») _ (s .bounds .rest) is (ap (λ q. q .rest) zeros)),
           closed-all Fine (s .«is_open») _ is,
         );
       };
