@@ -1,4 +1,5 @@
 // Flows of counts, tick by tick.
+mod answers;
 mod bounds;
 mod flow;
 mod steady;
