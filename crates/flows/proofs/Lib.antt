@@ -1,3 +1,4 @@
 pub mod Kept
 pub mod Accepted
 pub mod Beats
+pub mod Laters
