@@ -6,6 +6,8 @@ mod flow;
 mod recorded;
 mod slotted;
 mod steady;
+#[cfg(test)]
+mod tests;
 
 pub use bounds::StageBounds;
 pub use clocked::Clocked;
