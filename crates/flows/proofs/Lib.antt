@@ -1,1 +1,5 @@
+pub mod Kept
+pub mod Accepted
+pub mod Beats
+pub mod Laters
 pub mod Views

@@ -1,1 +1,3 @@
 pub mod Views
+pub mod Checks
+pub mod States

@@ -47,3 +47,7 @@ tabled n f = record { frame = n; count = repeated n f }
 
 abbrev pub paired : ℕ → (ℕ → ℕ) → (ℕ → ℕ) → Curves
 paired n f g = record { frame = n; most = repeated n f; least = repeated n g }
+
+-- the pair with this most, and nothing at the least
+abbrev pub capped : Curve → Curves
+capped c = record { frame = c .frame; most = c .count; least = repeated (c .frame) (λ _. 0) }

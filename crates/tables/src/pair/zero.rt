@@ -1,7 +1,7 @@
 ghost use mathlib.Core.Path.{_≡_};
 ghost use Prim.Native.Nat.{_≤_};
 ghost use Rattle.tables.specs.Limits.{longest};
-ghost use Rattle.tables.specs.Tables.{curves, paired};
+ghost use Rattle.tables.specs.Tables.{curve, curves, paired, capped};
 use super::Pair;
 use crate::table::Fill;
 use crate::table::Table;
@@ -44,5 +44,15 @@ impl Pair {
         ensures { λ r. ⌜ curves r ≡ paired (now (self .entry) .most .frame) (λ _. 0) (λ _. 0) ⌝ }
     {
         zero_of(self.most.frame())
+    }
+
+    /// The pair with this most, and nothing at the least.
+    pub fn capped(most: &Table) -> Pair
+        ensures { λ r. ⌜ curves r ≡ capped (curve (now (most .entry))) ⌝ }
+    {
+        Pair {
+            most: *most,
+            least: Table::of(most.frame(), &Zero),
+        }
     }
 }
