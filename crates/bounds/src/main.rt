@@ -7,6 +7,9 @@ use std::error::AnyError;
 use std::io;
 use std::io::Read;
 
+#[cfg(test)]
+mod tests;
+
 // The longest book, and one byte more, by which a longer one is known.
 const ENOUGH: usize = 32 * 512 + 1;
 

@@ -1,0 +1,6 @@
+// Books and tables by example.
+mod blocks;
+mod listings;
+mod orders;
+mod refusals;
+mod stages;
