@@ -9,8 +9,7 @@ use Rattle.std.specs.declared.option.Option.the-variants.{Some, None}
 use Rattle.std.specs.declared.result.Result.the-variants.{Ok, Err}
 use Rattle.tables.specs.Courses.{sum, later}
 use Rattle.tables.specs.declared.pair.Pair.{Pair}
-use Rattle.courses.specs.Courses.{Keeps, SameTo}
-use Rattle.courses.proofs.Sums.{keeps-later, keeps-same}
+use Rattle.flows.proofs.Kept.{keeps-tail}
 use Rattle.flows.specs.Views.{KeepsPair, tail, View, Fine, Idle, next-view, All, look}
 use Rattle.flows.specs.declared.bounds.StageBounds.{StageBounds}
 
@@ -21,11 +20,6 @@ later-tail a = fun-ext (λ t. let e : 1 + t ≡ suc t = omega arith in ap a e)
 pub sum-tail : (a : ℕ → ℕ) (t : ℕ) → sum a (suc t) ≡ a 0 + sum (tail a) t
 sum-tail a zero = omega arith
 sum-tail a (suc t) = omega (arith, sum-tail a t)
-
-pub keeps-tail : {most least a : ℕ → ℕ} → Keeps most least a → Keeps most least (tail a)
-keeps-tail {most} {least} {a} K = record {
-  to = λ T. keeps-same (record { each = λ t _. let e : 1 + t ≡ suc t = omega arith in ap a e }) (keeps-later 1 (K .to (1 + T)));
-}
 
 found-by : (o : Option Pair) (P Q : Pair → Type 0) → ((p : Pair) → P p → Q p) → found o P → found o Q
 found-by None P Q f h = tt

@@ -1,13 +1,24 @@
 ghost use mathlib.Core.Bool.{false};
 ghost use mathlib.Core.Path.{_≡_};
 ghost use Prim.Native.Nat.{ℕ};
+ghost use Rattle.flows.specs.Checks.{number-or-zero};
 ghost use Rattle.flows.specs.Views.{All, Idle};
-ghost use Rattle.stages.specs.Joins.{join-views, JoinSound, JoinBuilt};
+ghost use Rattle.stages.specs.Joins.{join-fits, join-views, JoinSound, JoinBuilt};
 use super::Join;
 use flows::Flow;
 use tables::joined;
 
 impl<A: Flow + Drop, B: Flow + Drop> Join<A, B> {
+    /// 0, or the number of the refusal.
+    pub fn check(left: &A, right: &B) -> u8
+        ensures { λ r. ⌜ r ≡ number-or-zero (join-fits A·Flow B·Flow (now (left .entry)) (now (right .entry))) ⌝ }
+    {
+        match joined(left.pair(), right.pair()) {
+            Ok(_) => 0,
+            Err(refusal) => refusal.number(),
+        }
+    }
+
     /// A join of two flows from which nothing was drawn; closed where the check refuses.
     pub fn build(left: A, right: B) -> Join<A, B>
         requires left { ⌜ A·Flow .sound left ⌝ }

@@ -2,14 +2,25 @@ ghost use mathlib.Core.Bool.{false};
 ghost use mathlib.Core.Path.{_≡_};
 ghost use Prim.Native.Nat.{ℕ};
 ghost use Rattle.tables.specs.Bounds.{serving};
+ghost use Rattle.flows.specs.Checks.{number-or-zero};
 ghost use Rattle.flows.specs.Views.{All, Idle};
-ghost use Rattle.stages.specs.Servers.{closed-serving, server-views, ServerSound, ServerBuilt};
+ghost use Rattle.stages.specs.Servers.{closed-serving, fits, server-views, ServerSound, ServerBuilt};
 use super::Server;
 use flows::Flow;
 use tables::ServerBounds;
 use tables::server_bounds;
 
 impl<E: Flow + Drop, S: Flow + Drop> Server<E, S> {
+    /// 0, or the number of the refusal.
+    pub fn check(events: &E, service: &S) -> u8
+        ensures { λ r. ⌜ r ≡ number-or-zero (fits E·Flow S·Flow (now (events .entry)) (now (service .entry))) ⌝ }
+    {
+        match server_bounds(events.pair(), service.pair()) {
+            Ok(_) => 0,
+            Err(refusal) => refusal.number(),
+        }
+    }
+
     /// A server over two flows from which nothing was drawn; closed where the check refuses.
     pub fn build(events: E, service: S) -> Server<E, S>
         requires events { ⌜ E·Flow .sound events ⌝ }

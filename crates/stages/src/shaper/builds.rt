@@ -3,8 +3,9 @@ ghost use mathlib.Core.Path.{_≡_};
 ghost use Prim.Native.Nat.{ℕ};
 ghost use Rattle.tables.specs.Bounds.{shaping as shaping-of};
 ghost use Rattle.courses.specs.Steps.{empty};
+ghost use Rattle.flows.specs.Checks.{number-or-zero};
 ghost use Rattle.flows.specs.Views.{All, Idle};
-ghost use Rattle.stages.specs.Shapers.{closed-shaping, state, shaper-views, ShaperSound, ShaperBuilt};
+ghost use Rattle.stages.specs.Shapers.{closed-shaping, shaper-fits, state, shaper-views, ShaperSound, ShaperBuilt};
 use super::Shaper;
 use flows::Flow;
 use tables::ShaperBounds;
@@ -12,6 +13,16 @@ use tables::Table;
 use tables::shaper_bounds;
 
 impl<E: Flow + Drop> Shaper<E> {
+    /// 0, or the number of the refusal.
+    pub fn check(events: &E, table: &Table) -> u8
+        ensures { λ r. ⌜ r ≡ number-or-zero (shaper-fits E·Flow (now (events .entry)) (now (table .entry))) ⌝ }
+    {
+        match shaper_bounds(events.pair(), table) {
+            Ok(_) => 0,
+            Err(refusal) => refusal.number(),
+        }
+    }
+
     /// A shaper over a flow from which nothing was drawn; closed where the check refuses.
     pub fn build(events: E, table: Table) -> Shaper<E>
         requires events { ⌜ E·Flow .sound events ⌝ }
