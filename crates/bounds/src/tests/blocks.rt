@@ -4,7 +4,6 @@ use book::analyse;
 use book::check_sums;
 use std::alloc::AllocError;
 use std::alloc::Global;
-use std::test::*;
 
 pub const EVENTS: u8 = 1;
 
