@@ -12,7 +12,7 @@ use Rattle.std.specs.declared.result.Result.the-variants.{Ok, Err}
 use Rattle.courses.specs.Bottoms.{steady, clocked}
 use Rattle.courses.specs.Courses.{Keeps}
 use Rattle.courses.proofs.Bottoms.{keeps-steady, keeps-clocked, keeps-slotted, keeps-recorded}
-use Rattle.tables.specs.Bottoms.{clocked-answer, clocked-least, clocked-most, kept-by, line, slotted-answer, slotted-least, slotted-most, slotted-pair, steady-answer, timed}
+use Rattle.tables.specs.Bottoms.{clocked-answer, clocked-least, clocked-most, kept-by, line, slotted-answer, slotted-pair, steady-answer, timed}
 use Rattle.tables.specs.Courses.{recorded, slotted, sum}
 use Rattle.tables.specs.Limits.{longest, limit, longest-period, longest-jitter}
 use Rattle.tables.specs.Makes.{framed}
@@ -32,6 +32,7 @@ pub passes : {X : Type 0} (b : Bool) (x : X) (r : Result X Refusal) (e : Refusal
 passes true x r e h = (refl, h)
 passes false x r e h = let z : _≡_ {A = ℕ} 0 1 = cc in absurd (omega arith)
 
+-- equal pairs of equal answers
 pub same-ok : {X : Type 0} (x y : X) → _≡_ {A = Result X Refusal} (Ok x) (Ok y) → x ≡ y
 same-ok x y h = cc
 

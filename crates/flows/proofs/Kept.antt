@@ -7,7 +7,6 @@ use Rattle.courses.specs.Courses.{Keeps}
 use Rattle.courses.proofs.Frames.{keeps-repeated}
 use Rattle.courses.proofs.Sums.{keeps-all, keeps-later}
 use Rattle.tables.specs.Courses.{sum, later}
-use Rattle.tables.specs.Curves.{repeated}
 use Rattle.tables.specs.Tables.{Curves, curves, paired}
 use Rattle.tables.specs.declared.pair.Pair.{Pair}
 use Rattle.flows.specs.Views.{KeepsPair, tail}

@@ -1,7 +1,7 @@
 -- A course from a later place on.
 use mathlib.Core.List.{List}
 use mathlib.Core.Path.{_≡_, sym, ap, fun-ext, _∙_}
-use Prim.Native.Nat.{ℕ, zero, suc, _+_, _%_, _≤_, _<_}
+use Prim.Native.Nat.{ℕ, suc, _+_, _%_, _≤_, _<_}
 use native.Mathlib.Nat.{add-mod-left, mod-eq-of-lt, mod-lt, zero-add}
 use native.Mathlib.Omega.{arith}
 use lib.ListN.{length, getD}

@@ -1,4 +1,4 @@
-// An answer as a number, and as the pair of a flow that is closed where it is a refusal.
+// An answer as a number.
 ghost use mathlib.Core.Path.{_≡_};
 ghost use Rattle.tables.specs.Makes.{answer};
 ghost use Rattle.tables.specs.Tables.{curves};
