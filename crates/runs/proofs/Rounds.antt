@@ -46,30 +46,30 @@ push-round s h k m hl kl =
 pub push-held : {X : Type 0} (s : List X) (h n p : ℕ) (m : X) → h ≤ length s → n < length s → (n < length s - h → p ≡ h + n) → (length s - h ≤ n → p ≡ n - (length s - h)) → held-in (set s p m) h (n + 1) ≡ held-in s h n ++ m ∷ []
 push-held s h n p m hl nl near round =
     elim (cases-lt n (length s - h)) [
-      inl l ↦ let e = near l in let t = push-near s h n m hl l in cc
-    | inr r ↦
-      let e = round r in
-      let kl : p < h = omega (arith, e) in
-      let en : n ≡ (length s - h) + p = omega (arith, e) in
-      let t = push-round s h p m hl kl in
-      cc
+      | inl l ↦ let e = near l in let t = push-near s h n m hl l in cc
+      | inr r ↦
+          let e = round r in
+          let kl : p < h = omega (arith, e) in
+          let en : n ≡ (length s - h) + p = omega (arith, e) in
+          let t = push-round s h p m hl kl in
+          cc
     ]
 
 pub pop-held : {X : Type 0} (s : List X) (h n p : ℕ) (d : X) → h ≤ length s → 0 < n → n ≤ length s → (0 < length s - h → p ≡ h + 0) → (length s - h ≤ 0 → p ≡ 0 - (length s - h)) → held-in s h n ≡ getD s p d ∷ held-in s (p + 1) (n - 1)
 pop-held s h n p d hl n0 nl near round =
     let en : n ≡ suc (n - 1) = omega arith in
     elim (cases-lt h (length s)) [
-      inl l ↦
-      let e : p ≡ h = omega (arith, near (omega arith)) in
-      let t = drop-more s h d l in
-      cc
-    | inr r ↦
-      let e : p ≡ 0 = omega (arith, round (omega arith)) in
-      let n1 : n - 1 ≤ length (drop 1 s) = simp length-drop (omega arith) in
-      let t₀ = drop-all h s r in
-      let t₁ = drop-more s 0 d (omega arith) in
-      let t₂ = take-append-le (n - 1) (drop 1 s) s n1 in
-      cc
+      | inl l ↦
+          let e : p ≡ h = omega (arith, near (omega arith)) in
+          let t = drop-more s h d l in
+          cc
+      | inr r ↦
+          let e : p ≡ 0 = omega (arith, round (omega arith)) in
+          let n1 : n - 1 ≤ length (drop 1 s) = simp length-drop (omega arith) in
+          let t₀ = drop-all h s r in
+          let t₁ = drop-more s 0 d (omega arith) in
+          let t₂ = take-append-le (n - 1) (drop 1 s) s n1 in
+          cc
     ]
 
 pub keep-step : {X : Type 0} (H₀ H₁ H₂ F : List X) (i : ℕ) (m : X) → H₁ ≡ H₀ ++ take i F → H₂ ≡ H₁ ++ m ∷ [] → i < length F → m ≡ getD F i m → H₂ ≡ H₀ ++ take (i + 1) F
@@ -126,13 +126,13 @@ length-held s h n hl nl = simp (length-take, length-append, length-drop) (omega 
 pub at-held : {X : Type 0} (s : List X) (h n i p : ℕ) (d : X) → h ≤ length s → n ≤ length s → i < n → (i < length s - h → p ≡ h + i) → (length s - h ≤ i → p ≡ i - (length s - h)) → getD (held-in s h n) i d ≡ getD s p d
 at-held s h n i p d hl nl il near round =
     elim (cases-lt i (length s - h)) [
-      inl l ↦
-      let e = near l in
-      let b : i < length (drop h s) = simp length-drop (omega arith) in
-      getD-take n (drop h s ++ s) i d il ∙ getD-append-left (drop h s) s d i b ∙ getD-drop h s i d ∙ ap (λ k. getD s k d) (sym e)
-    | inr r ↦
-      let e = round r in
-      getD-take n (drop h s ++ s) i d il ∙ getD-append-right (drop h s) s (length s - h) i d (length-drop h s) r ∙ ap (λ k. getD s k d) (sym e)
+      | inl l ↦
+          let e = near l in
+          let b : i < length (drop h s) = simp length-drop (omega arith) in
+          getD-take n (drop h s ++ s) i d il ∙ getD-append-left (drop h s) s d i b ∙ getD-drop h s i d ∙ ap (λ k. getD s k d) (sym e)
+      | inr r ↦
+          let e = round r in
+          getD-take n (drop h s ++ s) i d il ∙ getD-append-right (drop h s) s (length s - h) i d (length-drop h s) r ∙ ap (λ k. getD s k d) (sym e)
     ]
 
 pub nth-past : {X : Type 0} (xs : List X) (i : ℕ) → length xs ≤ i → nth xs i ≡ None

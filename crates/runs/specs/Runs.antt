@@ -23,6 +23,7 @@ use Rattle.stages.specs.declared.stage.Counts.{Counts}
 use Rattle.stages.specs.declared.stage.Stage as stage
 use Rattle.runs.specs.declared.log.Log.{Log}
 use Rattle.runs.specs.declared.states.Running.{Running}
+use Rattle.runs.specs.declared.states.Sums.{Sums}
 
 -- the three lists of a log
 pub record Lists : Type 0 where
@@ -56,6 +57,12 @@ pub record KeptTo (n : ℕ) (v : View) : Type 0 where
   pub rests : found (v .bounds .rest) (λ p. KeepsTo n (at (p .most)) (at (p .least)) (v .rest))
   pub out : (k : ℕ) → k + v .bounds .delay ≤ n → sum (v .arrived) k ≤ sum (v .passed) (k + v .bounds .delay)
 
+-- the first n places of a list were written with the counts of f, and no other
+pub record Written (n : ℕ) (f : ℕ → ℕ) (old new : List ℕ) : Type 0 where
+  pub long : length new ≡ length old
+  pub each : (k : ℕ) → k < n → getD new k 0 ≡ f k
+  pub others : (k : ℕ) → n ≤ k → getD new k 0 ≡ getD old k 0
+
 -- a cabinet at one time: its run, its log, what its ring holds, and how many slots the ring has
 pub record State (X M : Type 0) : Type 0 where
   pub run : Running X
@@ -64,6 +71,10 @@ pub record State (X M : Type 0) : Type 0 where
   pub slots : ℕ
 
 module _ {X : Type 0} (F : flow.Ghosts X) (P : stage.Ghosts X) where
+  -- what a run has come to
+  abbrev pub totals : Running X → Sums
+  totals r = record { ticks = r .ticks; arrived = r .arrived; passed = r .passed; waiting = P .top (r .network) .waits 0; greatest = r .greatest }
+
   -- why a tick is refused
   abbrev pub tick-refusal : Running X → Lists → Option Refusal
   tick-refusal r l = cond (ltb (r .ticks) (places l)) None (Some LogFull)
@@ -121,3 +132,39 @@ module _ {X : Type 0} (F : flow.Ghosts X) (P : stage.Ghosts X) where
     abbrev pub Carried : State X M → State X M → List M → List M → List M → Result Counts Refusal → Type 0
     Carried s t ins outs after (Ok c) = (carry-refusal s ins outs ≡ None) × Moved s t ins outs after c
     Carried s t ins outs after (Err e) = (carry-refusal s ins outs ≡ Some e) × Unmoved s t outs after
+
+    -- what a carry took in and what it gave out
+    abbrev pub taken : Result Counts Refusal → List M → List M
+    taken (Ok c) ins = take (c .arrived) ins
+    taken (Err e) ins = []
+
+    abbrev pub given : Result Counts Refusal → List M → List M
+    given (Ok c) after = take (c .passed) after
+    given (Err e) after = []
+
+    -- the runs from a state: ticks and carries, refused or not, one after the other, with all that went in and all that came out
+    pub data Runs (s : State X M) : List M → List M → State X M → Type 0 where
+      none : Runs s [] [] s
+      tick : {i o : List M} {t : State X M} (r : Running X) (l : Lists) (a : Result Counts Refusal) → Runs s i o t → Ticked (t .run) (t .log) r l a
+          → Runs s i o (record { run = r; log = l; held = t .held; slots = t .slots })
+      carry : {i o : List M} {t : State X M} (u : State X M) (ins outs after : List M) (a : Result Counts Refusal) → Runs s i o t → Carried t u ins outs after a
+          → Runs s (i ++ taken a ins) (o ++ given a after) u
+
+    -- at the end of a run that went from s to t: in the ticks taken each stage kept its bounds; what came out and then the ring is what went in, in order; and the log and the sums are what happened at the top stage
+    pub record Kept (s : State X M) (i o : List M) (t : State X M) : Type 0 where
+      pub stages : All (KeptTo (t .run .ticks)) (F .views (s .run .network))
+      pub views : F .views (t .run .network) ≡ map (on (t .run .ticks)) (F .views (s .run .network))
+      pub top : P .top (t .run .network) ≡ on (t .run .ticks) (P .top (s .run .network))
+      pub order : i ≡ o ++ t .held
+      pub slots : t .slots ≡ s .slots
+      pub arrived : Written (t .run .ticks) (P .top (s .run .network) .arrived) (s .log .arrived) (t .log .arrived)
+      pub passed : Written (t .run .ticks) (P .top (s .run .network) .passed) (s .log .passed) (t .log .passed)
+      pub waiting : Written (t .run .ticks) (λ k. P .top (s .run .network) .waits (k + 1)) (s .log .waiting) (t .log .waiting)
+      pub all-arrived : t .run .arrived ≡ sum (P .top (s .run .network) .arrived) (t .run .ticks)
+      pub all-passed : t .run .passed ≡ sum (P .top (s .run .network) .passed) (t .run .ticks)
+      pub greatest : t .run .greatest ≡ largest (t .run .ticks) (P .top (s .run .network) .waits)
+      pub sound : F .sound (t .run .network)
+
+    -- over every run from power-on, with every log and every number of slots
+    abbrev pub Every-run : Running X → List M → Type 0
+    Every-run r held = (l : Lists) (n : ℕ) (i o : List M) (t : State X M) → Runs (record { run = r; log = l; held = held; slots = n }) i o t → Kept (record { run = r; log = l; held = held; slots = n }) i o t

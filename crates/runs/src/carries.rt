@@ -11,7 +11,13 @@ use tables::Refusal;
 
 impl<P: Stage + Drop> Running<P> {
     // Why a carry is refused, if it is.
-    fn carry_refusal<M: Copy>(&self, log: &Log, ring: &Ring<M>, input: &[M], out: &[M]) -> Option<Refusal>
+    fn carry_refusal<M: Copy>(
+        &self,
+        log: &Log,
+        ring: &Ring<M>,
+        input: &[M],
+        out: &[M],
+    ) -> Option<Refusal>
         ensures { λ r. ⌜ r ≡ carry-refusal P·Flow P·Stage (record { run = now (self .entry); log = lists (now (log .entry)); held = holds (now (ring .entry)); slots = room (now (ring .entry)) }) (now (input .entry)) (now (out .entry)) ⌝ }
     {
         if !self.has_place(log) {
@@ -35,7 +41,13 @@ impl<P: Stage + Drop> Running<P> {
 
     /// One tick that carries messages: the first of the in-list that arrive go in, the first places of the
     /// out-list that pass are written, what the ring holds first, and the remainder stays in the ring.
-    pub fn carry<M: Copy>(&mut self, log: &mut Log, ring: &mut Ring<M>, input: &[M], out: &mut [M]) -> Result<Counts, Refusal>
+    pub fn carry<M: Copy>(
+        &mut self,
+        log: &mut Log,
+        ring: &mut Ring<M>,
+        input: &[M],
+        out: &mut [M],
+    ) -> Result<Counts, Refusal>
         requires { ⌜ P·Flow .sound (now self .network) ⌝ }
         ensures { λ r. ⌜ Carried P·Flow P·Stage (record { run = now (self .entry); log = lists (now (log .entry)); held = holds (now (ring .entry)); slots = room (now (ring .entry)) }) (record { run = now (self .exit); log = lists (now (log .exit)); held = holds (now (ring .exit)); slots = room (now (ring .exit)) }) (now (input .entry)) (now (out .entry)) (now (out .exit)) r ⌝ }
     {

@@ -1,5 +1,7 @@
 // Runs of networks, with a log and a ring of messages.
 mod carries;
+mod ends;
+mod fits;
 mod log;
 mod ring;
 mod slots;

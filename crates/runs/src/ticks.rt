@@ -17,7 +17,10 @@ impl<P: Stage + Drop> Running<P> {
             return false;
         }
         let ticks = self.ticks as usize;
-        ticks < log.arrived.len().min(log.passed.len().min(log.waiting.len()))
+        ticks
+            < log.arrived
+                .len()
+                .min(log.passed.len().min(log.waiting.len()))
     }
 
     // A tick for which the log has a place.

@@ -10,10 +10,11 @@ use Rattle.runs.proofs.slots.Ring.keep.Needs as need
 
 pub loop-m-again : need.loop-m-again
 loop-m-again g c =
-    let h : c .loop-m .self .held < length (now (c .loop-m .self .slots)) = omega arith in
-    (keep-step _ _ _ (c .args .fresh .now) (c .loop-m .m-index) (c .m-item .result) (c .loop-m .inv .0) (c .push .ensures .taken) (c .loop-m-test .taken) (c .m-item .is),
+    let h : c .loop-m .self .held < length (now (c .loop-m .self .slots)) = omega arith in (
+      keep-step _ _ _ (c .args .fresh .now) (c .loop-m .m-index) (c .m-item .result) (c .loop-m .inv .0) (c .push .ensures .taken) (c .loop-m-test .taken) (c .m-item .is),
       c .push .ensures .slots ∙ c .loop-m .inv .1,
-      omega (arith, c .push .ensures .count))
+      omega (arith, c .push .ensures .count),
+    )
 
 pub returns : need.returns
 returns g c =

@@ -10,5 +10,5 @@ returns g c =
       oldest = pop-held (c .args .self .now .slots .now) (c .args .self .now .head) (c .args .self .now .held) (c .place-place .result) (c .index-self-place .result) (c .args .self .now .begins) (omega arith) (c .args .self .now .few) (c .place-place .ensures .near) (c .place-place .ensures .round);
       some = λ h. refl;
       slots = refl;
-      count = refl
+      count = refl;
     }

@@ -37,8 +37,8 @@ returns g c =
     let none : carry-refusal (g .P·Flow) (g .P·Stage) (record { run = run; log = lists (c .args .log .now); held = holds ring; slots = room ring }) (c .args .input .now) (c .args .out .now) ≡ None = sym (c .in-rest .ensures tt) in
     let is = ready (g .P·Flow) (g .P·Stage) (record { run = run; log = lists (c .args .log .now); held = holds ring; slots = room ring }) (c .args .input .now) (c .args .out .now) none in
     let w = c .take-tick-counts .ensures in
-    let few = first-few (v .bounds .pair) (v .passed) (fine .keeps) 0 in
-    (none,
+    let few = first-few (v .bounds .pair) (v .passed) (fine .keeps) 0 in (
+      none,
       record {
         went = w;
         in-list = omega (arith, fine .few 0, w .arrived, is .in-list);
@@ -46,4 +46,5 @@ returns g c =
         order = sym (c .carry .ensures .order);
         others = c .carry .ensures .rest;
         slots = c .carry .ensures .slots;
-      })
+      },
+    )
