@@ -2,7 +2,6 @@
 ghost use Prim.Native.Nat.{_≤_};
 use crate::burst::Burst;
 use crate::burst::BurstFlow;
-use flows::Flow;
 use flows::Steady;
 use flows::SteadyFlow;
 use stages::Server;

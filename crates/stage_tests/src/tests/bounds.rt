@@ -2,7 +2,6 @@
 use super::is_past;
 use super::stands;
 use super::table;
-use flows::Flow;
 use flows::Recorded;
 use flows::RecordedFlow;
 use flows::Slotted;
@@ -26,4 +25,16 @@ fn server_over_server() -> Result<(), Fail> {
     check(stands(&server, 1, 2, 2))?;
     check(is_past(&server, 2, 0))?;
     check(is_past(&server, 5, 3))
+}
+
+// Events come before the service, so the server whose rest is used stands last.
+#[test]
+fn shaper_over_rest() -> Result<(), Fail> {
+    let first = Server::build(Slotted::build(&[0, 2, 0, 0]), Steady::build(4, 1));
+    let second = Server::build(Slotted::build(&[0, 0, 0, 1]), Rest(first));
+    let shaper = Shaper::build(second, table(&[1, 2, 2, 2])?);
+    check(stands(&shaper, 0, 0, 0))?;
+    check(stands(&shaper, 1, 1, 2))?;
+    check(stands(&shaper, 2, 1, 1))?;
+    check(is_past(&shaper, 3, 0))
 }
