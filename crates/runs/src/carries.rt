@@ -49,7 +49,8 @@ impl<P: Stage + Drop> Running<P> {
         out: &mut [M],
     ) -> Result<Counts, Refusal>
         requires { ⌜ P·Flow .sound (now self .network) ⌝ }
-        ensures { λ r. ⌜ Carried P·Flow P·Stage (record { run = now (self .entry); log = lists (now (log .entry)); held = holds (now (ring .entry)); slots = room (now (ring .entry)) }) (record { run = now (self .exit); log = lists (now (log .exit)); held = holds (now (ring .exit)); slots = room (now (ring .exit)) }) (now (input .entry)) (now (out .entry)) (now (out .exit)) r ⌝ }
+        ensures carried { λ r. ⌜ Carried P·Flow P·Stage (record { run = now (self .entry); log = lists (now (log .entry)); held = holds (now (ring .entry)); slots = room (now (ring .entry)) }) (record { run = now (self .exit); log = lists (now (log .exit)); held = holds (now (ring .exit)); slots = room (now (ring .exit)) }) (now (input .entry)) (now (out .entry)) (now (out .exit)) r ⌝ }
+        ensures sound { λ _. ⌜ P·Flow .sound (now (self .exit) .network) ⌝ }
     {
         if let Some(refusal) = self.carry_refusal(log, ring, input, out) {
             return Err(refusal);

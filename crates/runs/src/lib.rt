@@ -3,6 +3,7 @@ mod carries;
 mod ends;
 mod fits;
 mod log;
+mod reads;
 mod ring;
 mod slots;
 mod states;

@@ -4,7 +4,7 @@ ghost use mathlib.Core.Path.{_≡_};
 ghost use Prim.Native.Nat.{ℕ, _+_, _-_, _<_, _≤_};
 ghost use lib.ListN.{length, getD, set, take, drop};
 ghost use Rattle.std.specs.Options.{Cases as BySome, isSome};
-ghost use Rattle.runs.specs.Held.{holds, room, nth};
+ghost use Rattle.runs.specs.Held.{holds, room};
 use crate::slots::Ring;
 
 impl<'a, M: Copy> Ring<'a, M> {
@@ -21,35 +21,8 @@ impl<'a, M: Copy> Ring<'a, M> {
         }
     }
 
-    /// How many messages it holds.
-    pub fn len(&self) -> usize
-        ensures value { λ r. ⌜ r ≡ length (holds (now (self .entry))) ⌝ }
-        ensures held { λ r. ⌜ r ≡ now (self .entry) .held ⌝ }
-    {
-        self.held
-    }
-
-    /// How many slots it has.
-    pub fn slots(&self) -> usize
-        ensures { λ r. ⌜ r ≡ room (now (self .entry)) ⌝ }
-    {
-        self.slots.len()
-    }
-
-    /// The message at a place, counted from 0 at the oldest.
-    pub fn get(&self, place: usize) -> Option<M>
-        ensures { λ r. ⌜ r ≡ nth (holds (now (self .entry))) place ⌝ }
-    {
-        if place >= self.held {
-            return None;
-        }
-        let at = self.place(place);
-        let slots = &*self.slots;
-        Some(slots[at])
-    }
-
     // The slot of the message number i, counted from the oldest.
-    fn place(&self, i: usize) -> usize
+    pub(crate) fn place(&self, i: usize) -> usize
         requires { ⌜ i < room (now self) ⌝ }
         ensures near { λ r. ⌜ (i < room (now (self .entry)) - now (self .entry) .head → r ≡ now (self .entry) .head + i) ⌝ }
         ensures round { λ r. ⌜ (room (now (self .entry)) - now (self .entry) .head ≤ i → r ≡ i - (room (now (self .entry)) - now (self .entry) .head)) ⌝ }

@@ -27,7 +27,8 @@ impl<P: Stage + Drop> Running<P> {
     pub(crate) fn take_tick(&mut self, log: &mut Log) -> Counts
         requires sound { ⌜ P·Flow .sound (now self .network) ⌝ }
         requires room { ⌜ now self .ticks < places (lists (now log)) ⌝ }
-        ensures { λ r. ⌜ Went P·Flow P·Stage (now (self .entry)) (lists (now (log .entry))) (now (self .exit)) (lists (now (log .exit))) r ⌝ }
+        ensures went { λ r. ⌜ Went P·Flow P·Stage (now (self .entry)) (lists (now (log .entry))) (now (self .exit)) (lists (now (log .exit))) r ⌝ }
+        ensures sound { λ _. ⌜ P·Flow .sound (now (self .exit) .network) ⌝ }
     {
         let at = self.ticks as usize;
         let counts = self.network.step();
@@ -44,7 +45,8 @@ impl<P: Stage + Drop> Running<P> {
     /// One tick, written to the next place of the log: `Log` where the shortest list is used up.
     pub fn tick(&mut self, log: &mut Log) -> Result<Counts, Refusal>
         requires { ⌜ P·Flow .sound (now self .network) ⌝ }
-        ensures { λ r. ⌜ Ticked P·Flow P·Stage (now (self .entry)) (lists (now (log .entry))) (now (self .exit)) (lists (now (log .exit))) r ⌝ }
+        ensures ticked { λ r. ⌜ Ticked P·Flow P·Stage (now (self .entry)) (lists (now (log .entry))) (now (self .exit)) (lists (now (log .exit))) r ⌝ }
+        ensures sound { λ _. ⌜ P·Flow .sound (now (self .exit) .network) ⌝ }
     {
         if !self.has_place(log) {
             return Err(Refusal::Log);

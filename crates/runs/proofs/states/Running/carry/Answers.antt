@@ -18,7 +18,7 @@ carry-requires g c κs =
     let fine = top-fine (g .P·Flow .views x) (g .P·Stage .below x) v (g .P·Stage·met .first x) (g .P·Flow .viewed x (c .pre)) in
     let is = ready (g .P·Flow) (g .P·Stage) (record { run = run; log = lists (c .args .log .now); held = holds ring; slots = room ring }) (c .args .input .now) (c .args .out .now) (sym (c .in-rest .ensures tt)) in
     let long = length-held (ring .slots .now) (ring .head) (ring .held) (ring .begins) (ring .few) in
-    let w = c .take-tick-counts .ensures in
+    let w = c .take-tick-counts .ensures .went in
     let few = first-few (v .bounds .pair) (v .passed) (fine .keeps) 0 in
     record {
       arrived = omega (arith, fine .few 0, w .arrived, is .in-list);
@@ -36,15 +36,19 @@ returns g c =
     let fine = top-fine (g .P·Flow .views x) (g .P·Stage .below x) v (g .P·Stage·met .first x) (g .P·Flow .viewed x (c .pre)) in
     let none : carry-refusal (g .P·Flow) (g .P·Stage) (record { run = run; log = lists (c .args .log .now); held = holds ring; slots = room ring }) (c .args .input .now) (c .args .out .now) ≡ None = sym (c .in-rest .ensures tt) in
     let is = ready (g .P·Flow) (g .P·Stage) (record { run = run; log = lists (c .args .log .now); held = holds ring; slots = room ring }) (c .args .input .now) (c .args .out .now) none in
-    let w = c .take-tick-counts .ensures in
-    let few = first-few (v .bounds .pair) (v .passed) (fine .keeps) 0 in (
-      none,
-      record {
-        went = w;
-        in-list = omega (arith, fine .few 0, w .arrived, is .in-list);
-        out-list = omega (arith, few, w .passed, is .out-list);
-        order = sym (c .carry .ensures .order);
-        others = c .carry .ensures .rest;
-        slots = c .carry .ensures .slots;
-      },
-    )
+    let w = c .take-tick-counts .ensures .went in
+    let few = first-few (v .bounds .pair) (v .passed) (fine .keeps) 0 in
+    record {
+      carried = (
+        none,
+        record {
+          went = w;
+          in-list = omega (arith, fine .few 0, w .arrived, is .in-list);
+          out-list = omega (arith, few, w .passed, is .out-list);
+          order = sym (c .carry .ensures .order);
+          others = c .carry .ensures .rest;
+          slots = c .carry .ensures .slots;
+        },
+      );
+      sound = c .take-tick-counts .ensures .sound;
+    }

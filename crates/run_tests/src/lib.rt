@@ -1,0 +1,3 @@
+// Tests of runs, in a crate of their own.
+#[cfg(test)]
+mod tests;
