@@ -18,6 +18,7 @@ pub use block::Block;
 pub use block::Entries;
 pub use line::Line;
 pub use sums::CheckSums;
+pub use sums::Summed;
 pub use sums::check_sums;
 pub use text::AnalysisDisplay;
 pub use text::RefusedDisplay;

@@ -12,7 +12,11 @@ pub struct CheckSums {
     pub running_sum: u16,
 }
 
-pub fn check_sums(bytes: &[u8; 508]) -> CheckSums
+/// The bytes of a block before its check.
+pub type Summed = [u8; 508];
+
+/// The check sums of a block's bytes.
+pub fn check_sums(bytes: &Summed) -> CheckSums
     ensures sum { λ r. ⌜ r .sum ≡ total (now (bytes .entry)) % 65535 ⌝ }
     ensures running { λ r. ⌜ r .«running_sum» ≡ running (now (bytes .entry)) % 65535 ⌝ }
 {

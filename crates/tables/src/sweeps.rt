@@ -21,7 +21,7 @@ pub fn convolved_at(a: &Table, b: &Table, k: usize) -> u32
 }
 
 // The smallest a(u) + b(k - u), u from 0 to k, for each k below 128.
-pub fn convolved_all(a: &Table, b: &Table) -> [u32; 128]
+pub(crate) fn convolved_all(a: &Table, b: &Table) -> [u32; 128]
     ensures { λ r. ⌜ ((k : ℕ) → k < 128 → getD r k 0 ≡ convolved (at (now (a .entry))) (at (now (b .entry))) k) ⌝ }
 {
     let mut all = [0; 128];
@@ -32,7 +32,7 @@ pub fn convolved_all(a: &Table, b: &Table) -> [u32; 128]
 }
 
 // The largest f(k + i) - b(i), i from 0 to last, of the counts f that are written out.
-pub fn deconvolved_at(f: &[u32; 128], b: &Table, last: usize, k: usize) -> u32
+pub(crate) fn deconvolved_at(f: &[u32; 128], b: &Table, last: usize, k: usize) -> u32
     requires few { ⌜ last < longest ⌝ }
     requires short { ⌜ k ≤ longest ⌝ }
     ensures { λ r. ⌜ r ≡ deconvolved last (λ n. getD (now (f .entry)) n 0) (at (now (b .entry))) k ⌝ }

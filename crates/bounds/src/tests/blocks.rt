@@ -26,7 +26,7 @@ fn put(bytes: &mut [u8; 508], place: usize, counts: &[u32])
 }
 
 // The bytes, and their check sums after them.
-pub fn summed(bytes: &[u8; 508]) -> [u8; 512] {
+pub(crate) fn summed(bytes: &[u8; 508]) -> [u8; 512] {
     let sums = check_sums(bytes);
     let [a, b] = sums.sum.to_be_bytes();
     let [c, d] = sums.running_sum.to_be_bytes();
@@ -40,7 +40,7 @@ pub fn summed(bytes: &[u8; 508]) -> [u8; 512] {
 }
 
 // The bytes of a block before the check.
-pub fn laid_out(kind: u8, frame: u8, most: &[u32], least: &[u32]) -> [u8; 508] {
+pub(crate) fn laid_out(kind: u8, frame: u8, most: &[u32], least: &[u32]) -> [u8; 508] {
     let mut bytes = [0; 508];
     bytes[0] = kind;
     bytes[1] = frame;
@@ -50,12 +50,12 @@ pub fn laid_out(kind: u8, frame: u8, most: &[u32], least: &[u32]) -> [u8; 508] {
 }
 
 // A block with right check sums.
-pub fn block(kind: u8, frame: u8, most: &[u32], least: &[u32]) -> [u8; 512] {
+pub(crate) fn block(kind: u8, frame: u8, most: &[u32], least: &[u32]) -> [u8; 512] {
     summed(&laid_out(kind, frame, most, least))
 }
 
 // The blocks in a row.
-pub fn book_of(heap: Global, blocks: &[[u8; 512]]) -> Result<Vec<u8>, AllocError> {
+pub(crate) fn book_of(heap: Global, blocks: &[[u8; 512]]) -> Result<Vec<u8>, AllocError> {
     let mut bytes = Vec::new(heap);
     for block in blocks {
         bytes.extend_from_slice(block)?;
@@ -64,7 +64,7 @@ pub fn book_of(heap: Global, blocks: &[[u8; 512]]) -> Result<Vec<u8>, AllocError
 }
 
 // The number and the block of a refusal; `None` where the book is accepted.
-pub fn refused(book: &[u8]) -> Option<(u8, u32)> {
+pub(crate) fn refused(book: &[u8]) -> Option<(u8, u32)> {
     match analyse(book) {
         Ok(_) => None,
         Err(refused) => Some((refused.refusal.number(), refused.block)),

@@ -6,7 +6,7 @@ ghost use Rattle.std.specs.shelf.Lists.{sum as total};
 ghost use Rattle.tables.specs.Ranges.{smallest};
 
 // Puts a count before the others; the oldest goes.
-pub fn put_first(past: &mut [u32; 64], count: u32)
+pub(crate) fn put_first(past: &mut [u32; 64], count: u32)
     ensures { λ _. ⌜ now (past .exit) ≡ count ∷ take 63 (now (past .entry)) ⌝ }
 {
     let mut carried = count;
@@ -18,7 +18,7 @@ pub fn put_first(past: &mut [u32; 64], count: u32)
 }
 
 // What a shaping table with these entries still allows, after what was passed lately.
-pub fn room(entries: &[u32], past: &[u32; 64]) -> u64
+pub(crate) fn room(entries: &[u32], past: &[u32; 64]) -> u64
     requires some { ⌜ 1 ≤ length (now entries) ⌝ }
     requires few { ⌜ length (now entries) ≤ 64 ⌝ }
     ensures { λ r. ⌜ r ≡ smallest (length (now (entries .entry)) - 1) (λ k. getD (now (entries .entry)) k 0 - total (take k (now (past .entry)))) ⌝ }
