@@ -1,4 +1,6 @@
 // Books of blocks, and the bounds of the chain that a book describes.
+#![tactic(auto)]
+
 mod analysis;
 mod answers;
 mod block;

@@ -1,4 +1,6 @@
 // Prints the bounds of the chain that a book on standard input describes.
+#![tactic(auto)]
+
 ghost use Rattle.std.specs.Prelude.{◌≡◌, ◌≤◌, true, length, is_ok, IfOk, OnOk};
 ghost use Rattle.book.specs.Books.{book_answer};
 

@@ -1,5 +1,7 @@
 // A cabinet from the fitting to the report: chargers that all start on one tick after a mains failure, their
 // bus, a controller and a shaper; the resend timer by the proved bounds, and by what a bench had shown.
+#![tactic(auto)]
+
 use anyhow::anyhow;
 use fits::Promised;
 use flows::Recorded;

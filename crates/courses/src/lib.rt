@@ -1,4 +1,6 @@
 // The laws of courses and of the stages that pass them on: what the bounds of a server, a shaper and a join say of every run, up to any tick.
+#![tactic(auto)]
+
 mod bottom_flows;
 mod causal;
 mod joins;

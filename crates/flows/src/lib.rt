@@ -1,4 +1,6 @@
 // Flows of counts, tick by tick.
+#![tactic(auto)]
+
 mod answers;
 mod bounds;
 mod clocked;

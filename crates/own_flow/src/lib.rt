@@ -1,4 +1,6 @@
 // A flow of one's own, below the stages.
+#![tactic(auto)]
+
 mod burst;
 mod networks;
 

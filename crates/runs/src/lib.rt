@@ -1,4 +1,6 @@
 // Runs of networks, with a log and a ring of messages.
+#![tactic(auto)]
+
 mod calls;
 mod carries;
 mod ends;

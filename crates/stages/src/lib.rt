@@ -1,4 +1,6 @@
 // Servers, shapers and joins over flows.
+#![tactic(auto)]
+
 mod join;
 mod rest;
 mod server;

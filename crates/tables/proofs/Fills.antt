@@ -42,25 +42,20 @@ filled_front {n} {size} {f} {xs} g long is = record { long = long; each = λ k h
 
 -- what a table keeps, of an array that is filled with what repeats f
 pub laid_out : {n m : ℕ} {f : ℕ → ℕ} {xs : List ℕ} → Graph n f → Filled 129 m (repeated n f) xs → 129 ≤ m
-    → (1 ≤ n) × ((n ≤ longest) × ((get_or xs 0 0 ≡ 0) × (((k : ℕ) → k < n → get_or xs k 0 ≤ get_or xs (k + 1) 0) × ((get_or xs n 0 ≤ limit)
-    × (((k : ℕ) → k + n < 129 → get_or xs (k + n) 0 ≡ get_or xs k 0 + get_or xs n 0) × Unit {0})))))
+    → record {
+      some : 1 ≤ n;
+      few : n ≤ longest;
+      starts : get_or xs 0 0 ≡ 0;
+      rises : (k : ℕ) → k < n → get_or xs k 0 ≤ get_or xs (k + 1) 0;
+      limited : get_or xs n 0 ≤ limit;
+      repeats : (k : ℕ) → k + n < 129 → get_or xs (k + n) 0 ≡ get_or xs k 0 + get_or xs n 0;
+    }
 laid_out {n} {m} {f} {xs} g h end =
-    let at_each : (k : ℕ) → k ≤ n → get_or xs k 0 ≡ f k = λ k l. h.each k (omega (arith, g.few)) ∙ repeated_within n f g.some g.starts k l in (
-      g.some,
-      (
-        g.few,
-        (
-          at_each 0 (omega arith) ∙ g.starts,
-          (
-            λ k l. omega (arith, at_each k (omega arith), at_each (k + 1) (omega arith), g.rises k l),
-            (
-              omega (arith, at_each n (omega arith), g.limited),
-              (
-                λ k l. omega (arith, h.each (k + n) (omega arith), h.each k (omega arith), repeated_later n f g.some k, at_each n (omega arith)),
-                tt,
-              ),
-            ),
-          ),
-        ),
-      ),
-    )
+    let at_each : (k : ℕ) → k ≤ n → get_or xs k 0 ≡ f k = λ k l. h.each k (omega (arith, g.few)) ∙ repeated_within n f g.some g.starts k l in record {
+      some = g.some;
+      few = g.few;
+      starts = at_each 0 (omega arith) ∙ g.starts;
+      rises = λ k l. omega (arith, at_each k (omega arith), at_each (k + 1) (omega arith), g.rises k l);
+      limited = omega (arith, at_each n (omega arith), g.limited);
+      repeats = λ k l. omega (arith, h.each (k + n) (omega arith), h.each k (omega arith), repeated_later n f g.some k, at_each n (omega arith));
+    }

@@ -12,11 +12,11 @@ use Rattle.tables.proofs.Tables.{at_le, at_later, at_rises, at_within, at_zero, 
 
 -- what a pair keeps, of two tables by what they show
 pub keeps : {m l : Table} {n : ℕ} {f g : ℕ → ℕ} → Shows m n f → Shows l n g → ((k : ℕ) → k ≤ n → g k ≤ f k)
-    → (l.frame ≡ m.frame) × (((k : ℕ) → k ≤ m.frame → entry l k ≤ entry m k) × Unit {0})
-keeps {m} {l} {n} sm sl below = (
-  omega (arith, sm.frame, sl.frame),
-  (λ k h. let low : k ≤ n = omega (arith, sm.frame) in omega (arith, sm.each k low, sl.each k low, below k low), tt),
-)
+    → record { same : l.frame ≡ m.frame; under : (k : ℕ) → k ≤ m.frame → entry l k ≤ entry m k }
+keeps {m} {l} {n} sm sl below = record {
+  same = omega (arith, sm.frame, sl.frame);
+  under = λ k h. let low : k ≤ n = omega (arith, sm.frame) in omega (arith, sm.each k low, sl.each k low, below k low);
+}
 
 -- and what its readers see
 pub shows_curves : {m l : Table} {n : ℕ} {f g : ℕ → ℕ} → Shows m n f → Shows l n g → ◌≡◌ {A = Curves} (record { frame = m.frame; most = at m; least = at l }) (paired n f g)

@@ -23,7 +23,7 @@ impl Fill for Convolved<'_> {
 
 // The min-plus convolution of two tables of one frame.
 pub fn convolved_table<'a>(first: &'a Table, then: &'a Table) -> Table
-    requires { first.now.frame ≡ ((λ x. x.now) then).frame }
+    requires { first.now.frame ≡ then.now.frame }
     ensures { Shows result first.now.frame (convolved (at first.now) (at then.now)) }
 {
     Table::of(first.frame(), &Convolved { first, then })

@@ -1,4 +1,6 @@
 // Tables of message counts, those of the bottom flows, and the bounds that a server, a shaper and a join make of them.
+#![tactic(auto)]
+
 mod bottoms;
 mod bounds;
 mod combine;

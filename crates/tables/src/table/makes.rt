@@ -16,8 +16,8 @@ pub trait Fill {
 
 // An array with the counts of the frame; the places past it are still 0.
 fn fill_front<F: Fill>(frame: usize, fill: &F) -> [u32; 129]
-    requires { Graph frame (fills fill.now) }
-    ensures { (k : ℕ) → k ≤ frame → slice_index result k ≡ fills fill.now k }
+    requires { Graph frame (F.fills fill.now) }
+    ensures { (k : ℕ) → k ≤ frame → slice_index result k ≡ F.fills fill.now k }
 {
     let mut entries = [0; 129];
     for k in 1..frame + 1 {
@@ -28,8 +28,8 @@ fn fill_front<F: Fill>(frame: usize, fill: &F) -> [u32; 129]
 
 impl Table {
     pub(crate) fn of<F: Fill>(frame: usize, fill: &F) -> Table
-        requires { Graph frame (fills fill.now) }
-        ensures { Shows result frame (fills fill.now) }
+        requires { Graph frame (F.fills fill.now) }
+        ensures { Shows result frame (F.fills fill.now) }
     {
         let mut entries = fill_front(frame, fill);
         for k in frame + 1..129 {

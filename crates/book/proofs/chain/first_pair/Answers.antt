@@ -5,6 +5,6 @@ use Rattle.book.proofs.chain.first_pair.Goals as goal
 
 pub returns-in-Events : goal.returns-in-Events
 returns-in-Events c =
-    let is : block_read c.in-ok-entries.field-0 ≡ read_as 1 c.in-Events.entries = ap block_read c.in-Events.is in
-    let read : Ok (read_as 1 c.in-Events.entries) ≡ read_answer c.args.block.now = ap Ok (sym is) ∙ c.in-ok-entries.ensures in
+    let is : block_read c.in_ok-entries.field-0 ≡ read_as 1 c.in-Events.entries = ap block_read c.in-Events.is in
+    let read : Ok (read_as 1 c.in-Events.entries) ≡ read_answer c.args.block.now = ap Ok (sym is) ∙ c.in_ok-entries.ensures in
     starts c.args.block.now (read_as 1 c.in-Events.entries) read _ c.pair.ensures

@@ -6,4 +6,4 @@ pub loop-preserved : goal.loop-preserved
 loop-preserved c =
     let items = vec_items c.args.ticks.now in
     let tick = c.args.tick in
-    c.in-ok-push.ensures.items ∙ ap (λ xs. xs ++ tick ∷ []) c.loop.invariant ∙ append_assoc items (replicate c.loop.counter tick) (tick ∷ []) ∙ ap (λ xs. items ++ xs) (replicate_more c.loop.counter tick)
+    c.in_ok-push.ensures.items ∙ ap (λ xs. xs ++ tick ∷ []) c.loop.invariant ∙ append_assoc items (replicate c.loop.counter tick) (tick ∷ []) ∙ ap (λ xs. items ++ xs) (replicate_more c.loop.counter tick)

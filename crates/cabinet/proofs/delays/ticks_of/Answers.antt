@@ -8,7 +8,7 @@ pub loop-place-preserved : goal.loop-place-preserved
 loop-place-preserved c =
     let counts = c.args.counts.now in
     let n = c.loop-place.place in
-    ap (λ xs. xs ++ ticks_from (n + 1 + 1) (drop (n + 1) counts)) c.in-ok-repeat.ensures ∙ ticks_more (vec_items c.loop-place.ticks) (ticks_from 1 counts) n counts c.loop-place-test.true c.loop-place.invariant
+    ap (λ xs. xs ++ ticks_from (n + 1 + 1) (drop (n + 1) counts)) c.in_ok-repeat.ensures ∙ ticks_more (vec_items c.loop-place.ticks) (ticks_from 1 counts) n counts c.loop-place-test.true c.loop-place.invariant
 
 pub returns : goal.returns
 returns c =

@@ -8,7 +8,7 @@ loop-tick-preserved c =
     let s = c.args.sheet.now in
     let n = c.loop-tick.tick in
     let one : suc n ≡ n + 1 = omega arith in
-    omega (arith, c.loop-tick.invariant, c.in-ok-door.ensures, c.in-ok-temperature.ensures, c.in-ok-first.ensures, c.in-ok-second.ensures, c.in-ok-third.ensures, c.in-ok-fourth.ensures)
+    omega (arith, c.loop-tick.invariant, c.in_ok-door.ensures, c.in_ok-temperature.ensures, c.in_ok-first.ensures, c.in_ok-second.ensures, c.in_ok-third.ensures, c.in_ok-fourth.ensures)
     ∙ ap (sum (handed s)) one
 
 pub returns : goal.returns

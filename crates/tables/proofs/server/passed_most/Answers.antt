@@ -10,11 +10,11 @@ of-requires c =
     let s = c.args.service.now in
     let d = c.args.settling in
     rw c.frame.ensures.value
-    (graph_same (passed_same e s d c.requires.same (λ n. get_or c.convolved-all.result n 0) c.convolved-all.ensures (omega arith)) (passed_graph e s d c.requires.same))
+    (graph_same (passed_same e s d c.requires.same (λ n. get_or c.convolved_all.result n 0) c.convolved_all.ensures (omega arith)) (passed_graph e s d c.requires.same))
 
 pub returns : goal.returns
 returns c =
     let e = c.args.events.now in
     let s = c.args.service.now in
     let d = c.args.settling in
-    shows_to refl (passed_same e s d c.requires.same (λ n. get_or c.convolved-all.result n 0) c.convolved-all.ensures (omega arith)) (rw c.frame.ensures.value at c.of.ensures)
+    shows_to refl (passed_same e s d c.requires.same (λ n. get_or c.convolved_all.result n 0) c.convolved_all.ensures (omega arith)) (rw c.frame.ensures.value at c.of.ensures)

@@ -5,14 +5,14 @@ use Rattle.tables.proofs.Pairs.{keeps, at_under, shows_curves}
 use Rattle.tables.proofs.Tables.{shows_to}
 use Rattle.tables.proofs.server.rest.Goals as goal
 
-pub invariant-of-result : goal.invariant-of-result
-invariant-of-result c =
+pub invariant_of-result : goal.invariant_of-result
+invariant_of-result c =
     let e = c.args.events.now in
     let s = c.args.service.now in
-    keeps c.excess-table.ensures (shows_to s.same (λ k _. refl) c.excess-table-2.ensures)
+    keeps c.excess_table.ensures (shows_to s.same (λ k _. refl) c.excess_table-2.ensures)
     (λ k h. excess_under (at s.least) (at s.most) (at e.most) (at e.least) k (λ j l. at_under s j (omega arith)) (λ j l. at_under e j (omega arith)))
 
 pub returns : goal.returns
 returns c =
     let s = c.args.service.now in
-    shows_curves (shows_to (sym c.requires) (λ k _. refl) c.excess-table.ensures) (shows_to (s.same ∙ sym c.requires) (λ k _. refl) c.excess-table-2.ensures)
+    shows_curves (shows_to (sym c.requires) (λ k _. refl) c.excess_table.ensures) (shows_to (s.same ∙ sym c.requires) (λ k _. refl) c.excess_table-2.ensures)

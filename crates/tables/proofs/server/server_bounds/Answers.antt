@@ -15,11 +15,11 @@ returns c =
     let same : eqb e.most.frame s.most.frame ≡ true = eq-eqb e.most.frame s.most.frame (omega arith) in
     let is : settling_length e.most.frame (at e.most) (at s.least) ≡ Some d = sym c.in-Some.ensures.value in
     let settles = settling_settles e.most.frame (at e.most) (at s.least) d is in
-    let made : ◌≡◌ {A = Serving} (record { settling = d; wait = c.excess_at.result; delay = c.delay-of.result; passed = curves c.passed.result; rest = curves c.rest.result }) (settled (curves e) (curves s) d) =
-    λ i. record { settling = d; wait = c.excess_at.ensures i; delay = c.delay-of.ensures.value i; passed = c.passed.ensures i; rest = c.rest.ensures i } in
+    let made : ◌≡◌ {A = Serving} (record { settling = d; wait = c.excess_at.result; delay = c.delay_of.result; passed = curves c.passed.result; rest = curves c.rest.result }) (settled (curves e) (curves s) d) =
+    λ i. record { settling = d; wait = c.excess_at.ensures i; delay = c.delay_of.ensures.value i; passed = c.passed.ensures i; rest = c.rest.ensures i } in
     record {
       value = ap Ok made ∙ sym (cond-true _ _ _ same ∙ ap (if_settled (curves e) (curves s)) is);
       settles = settles;
-      shortest = rw c.delay-of.ensures.value (delay_shortest d (at e.most) (at s.least) (at_rises e.most) (at_rises s.least) settles.settled);
+      shortest = rw c.delay_of.ensures.value (delay_shortest d (at e.most) (at s.least) (at_rises e.most) (at_rises s.least) settles.settled);
       bound = omega (arith, c.excess_at.ensures, excess_le (at e.most) (at s.least) d (at_rises e.most), at_le e.most d settles.within);
     }

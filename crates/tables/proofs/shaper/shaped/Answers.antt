@@ -6,23 +6,23 @@ use Rattle.tables.proofs.Pairs.{at_under, keeps, shows_curves}
 use Rattle.tables.proofs.Tables.{shows_at, shows_to}
 use Rattle.tables.proofs.shaper.shaped.Goals as goal
 
-pub invariant-of-result : goal.invariant-of-result
-invariant-of-result c =
+pub invariant_of-result : goal.invariant_of-result
+invariant_of-result c =
     let e = c.args.events.now in
     let h = c.args.h.now in
-    keeps c.convolved-table.ensures (shows_to e.same (λ k _. refl) c.convolved-table-2.ensures)
+    keeps c.convolved_table.ensures (shows_to e.same (λ k _. refl) c.convolved_table-2.ensures)
     (λ k l.
-    convolved_under (at e.least) (at e.most) (at c.growth-table-growth.result) (at h) k
+    convolved_under (at e.least) (at e.most) (at c.growth_table-growth.result) (at h) k
     (λ j i. at_under e j (omega arith))
-    (λ j i. omega (arith, shows_at c.growth-table-growth.ensures j (omega arith), growth_le (at h) (h.frame - 1) j)))
+    (λ j i. omega (arith, shows_at c.growth_table-growth.ensures j (omega arith), growth_le (at h) (h.frame - 1) j)))
 
 pub returns : goal.returns
 returns c =
     let e = c.args.events.now in
     let h = c.args.h.now in
-    shows_curves c.convolved-table.ensures
+    shows_curves c.convolved_table.ensures
     (shows_to e.same
     (λ k l.
-    convolved_same (at e.least) (at c.growth-table-growth.result) (growth (h.frame - 1) (at h)) k (λ j i. shows_at c.growth-table-growth.ensures j (omega arith))
+    convolved_same (at e.least) (at c.growth_table-growth.result) (growth (h.frame - 1) (at h)) k (λ j i. shows_at c.growth_table-growth.ensures j (omega arith))
     ∙ ap (λ n. convolved (at e.least) (growth (n - 1) (at h)) k) (sym c.requires))
-    c.convolved-table-2.ensures)
+    c.convolved_table-2.ensures)

@@ -19,8 +19,8 @@ returns c =
     let shape : subadditive h.frame g ≡ true = search rules in
     let fits : f n ≤ g n = omega (arith, ap f is, ap g is, c.near.ensures.value, c.near-2.ensures.value) in
     let wait : c.excess_at.result ≡ excess f g n = c.excess_at.ensures ∙ ap (excess f g) is in
-    let delay : c.delay-of.result ≡ shortest_delay n f g = c.delay-of.ensures.value ∙ ap (λ m. shortest_delay m f g) is in
-    let made : ◌≡◌ {A = Shaping} (record { wait = c.excess_at.result; delay = c.delay-of.result; passed = curves c.shaped.result }) (shaped (curves e) (curve h)) =
+    let delay : c.delay_of.result ≡ shortest_delay n f g = c.delay_of.ensures.value ∙ ap (λ m. shortest_delay m f g) is in
+    let made : ◌≡◌ {A = Shaping} (record { wait = c.excess_at.result; delay = c.delay_of.result; passed = curves c.shaped.result }) (shaped (curves e) (curve h)) =
     λ i. record { wait = wait i; delay = delay i; passed = c.shaped.ensures i } in
     record {
       value = ap Ok made ∙ sym (cond-true _ _ _ same ∙ cond-true _ _ _ shape ∙ cond-true _ _ _ (le-leb (f n) (g n) fits));

@@ -17,11 +17,11 @@ loop-n-init c =
 pub add-requires : goal.add-requires
 add-requires c = omega (arith, (whole_parts c.args.book.now c.requires).2, c.loop-n.invariant.0)
 
-pub overflow-cast-block : goal.overflow-cast-block
-overflow-cast-block c = omega (arith, (whole_parts c.args.book.now c.requires).2)
+pub overflow_cast-block : goal.overflow_cast-block
+overflow_cast-block c = omega (arith, (whole_parts c.args.book.now c.requires).2)
 
-pub overflow-add-block : goal.overflow-add-block
-overflow-add-block c = omega (arith, (whole_parts c.args.book.now c.requires).2)
+pub overflow_add-block : goal.overflow_add-block
+overflow_add-block c = omega (arith, (whole_parts c.args.book.now c.requires).2)
 
 pub loop-n-preserved : goal.loop-n-preserved
 loop-n-preserved c =

@@ -9,7 +9,7 @@ pub loop-k-preserved : goal.loop-k-preserved
 loop-k-preserved c =
     let here : c.loop-k.k < length c.loop-k.count-items = omega arith in
     let more = fill_by_more (entry_at c.args.bytes.now) c.loop-k.count-items c.loop-k.k 0 here c.loop-k.invariant.1 in
-    (simp length-set (omega arith), simp c.decoded-at.ensures more)
+    (simp length-set (omega arith), simp c.decoded_at.ensures more)
 
 pub returns : goal.returns
 returns c =

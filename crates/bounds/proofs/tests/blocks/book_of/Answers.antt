@@ -8,7 +8,7 @@ pub loop-block-preserved : goal.loop-block-preserved
 loop-block-preserved c =
     let bs = c.args.blocks.now in
     let i = c.loop-block.block-index in
-    pushed (get_or bs i []) c.loop-block.invariant c.in-ok-extend-from-slice.was c.extend-from-slice.ensures.items
+    pushed (get_or bs i []) c.loop-block.invariant c.in_ok-extend_from_slice.was c.extend_from_slice.ensures.items
     ∙ (flat_map_more (λ b. b) [] (take i bs) (get_or bs i []) ∙ ap (flat_map (λ b. b)) (sym (take_more bs i [] c.loop-block-test.true)))
 
 pub returns : goal.returns

@@ -2,7 +2,7 @@ use Rattle.std.proofs.Common.{◌<◌, length, ap, ◌∙◌, arith, rules}
 use Rattle.runs.specs.Held.{held_in}
 use Rattle.runs.proofs.Rounds.{send_step, send_rest}
 use Rattle.runs.proofs.slots.Ring.send.Goals as goal
-use Rattle.runs.proofs.slots.Ring.send.Goals.{in-Some, in-default}
+use Rattle.runs.proofs.slots.Ring.send.Goals.{in-Some, in_default}
 
 pub loop-i-preserved : goal.loop-i-preserved
 loop-i-preserved g c =
@@ -14,5 +14,5 @@ loop-i-preserved g c =
           let u = send_rest c.loop-i.out c.args.out.now c.loop-i.i w.in-Some.m c.loop-i.invariant.1 in
           let e = w.out-is in
           (cc, cc, ap length c.pop.ensures.slots ∙ c.loop-i.invariant.2, omega (arith, c.pop.ensures.count))
-      | in-default w ↦ absurd (omega (arith, w.in-default.ensures.oldest.0))
+      | in_default w ↦ absurd (omega (arith, w.in_default.ensures.oldest.0))
     ]

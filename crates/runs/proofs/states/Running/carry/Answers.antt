@@ -13,9 +13,9 @@ carry-requires g c =
     let x = run.network in
     let v = g.P.Stage.top x in
     let fine = top_fine (g.P.Flow.views x) (g.P.Stage.below x) v (g.met.P.Stage.first x) (g.P.Flow.viewed x c.requires) in
-    let is = ready g.P.Flow g.P.Stage (record { run = run; log = lists c.args.log.now; held = holds ring; slots = room ring }) c.args.input.now c.args.out.now (sym c.in-default.ensures) in
+    let is = ready g.P.Flow g.P.Stage (record { run = run; log = lists c.args.log.now; held = holds ring; slots = room ring }) c.args.input.now c.args.out.now (sym c.in_default.ensures) in
     let long = length_held ring.slots.now ring.head ring.held ring.begins ring.few in
-    let w = c.take-tick-counts.ensures.went in
+    let w = c.take_tick-counts.ensures.went in
     let few = first_few v.bounds.pair v.passed fine.keeps 0 in
     record {
       arrived = omega (arith, fine.few 0, w.arrived, is.in_list);
@@ -31,9 +31,9 @@ returns g c =
     let x = run.network in
     let v = g.P.Stage.top x in
     let fine = top_fine (g.P.Flow.views x) (g.P.Stage.below x) v (g.met.P.Stage.first x) (g.P.Flow.viewed x c.requires) in
-    let none : refusal_of_carry g.P.Flow g.P.Stage (record { run = run; log = lists c.args.log.now; held = holds ring; slots = room ring }) c.args.input.now c.args.out.now ≡ None = sym c.in-default.ensures in
+    let none : refusal_of_carry g.P.Flow g.P.Stage (record { run = run; log = lists c.args.log.now; held = holds ring; slots = room ring }) c.args.input.now c.args.out.now ≡ None = sym c.in_default.ensures in
     let is = ready g.P.Flow g.P.Stage (record { run = run; log = lists c.args.log.now; held = holds ring; slots = room ring }) c.args.input.now c.args.out.now none in
-    let w = c.take-tick-counts.ensures.went in
+    let w = c.take_tick-counts.ensures.went in
     let few = first_few v.bounds.pair v.passed fine.keeps 0 in
     record {
       carried = (
@@ -47,5 +47,5 @@ returns g c =
           slots = c.carry.ensures.slots;
         },
       );
-      sound = c.take-tick-counts.ensures.sound;
+      sound = c.take_tick-counts.ensures.sound;
     }

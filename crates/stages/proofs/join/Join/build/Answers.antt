@@ -34,15 +34,15 @@ returns g c =
       fresh = (refl, all_append Idle (A.views x) (B.views y) c.requires.fresh c.requires.idle);
     }
 
-pub returns-in-default : goal.returns-in-default
-returns-in-default g c =
+pub returns-in_default : goal.returns-in_default
+returns-in_default g c =
     let A = g.A.Flow in
     let B = g.B.Flow in
     let x = c.args.left in
     let y = c.args.right in
     let n = (A.pair x).most.frame in
-    let zeros = c.zero-like-pair.ensures ∙ ap (λ (p : Pair). paired p.most.frame (λ _. 0) (λ _. 0)) c.pair-in-default.ensures in
-    let refused : Err c.in-default.field-0 ≡ join_fits A B x y = c.in-default.ensures ∙ (λ i. join_answer (curves (c.pair.ensures i)) (curves (c.pair-2.ensures i))) in
+    let zeros = c.zero_like-pair.ensures ∙ ap (λ (p : Pair). paired p.most.frame (λ _. 0) (λ _. 0)) c.pair-in_default.ensures in
+    let refused : Err c.in_default.field-0 ≡ join_fits A B x y = c.in_default.ensures ∙ (λ i. join_answer (curves (c.pair.ensures i)) (curves (c.pair-2.ensures i))) in
     record {
       built = record {
         left = refl;
@@ -53,7 +53,7 @@ returns-in-default g c =
       sound = record {
         left = c.requires.left;
         right = c.requires.right;
-        fine = (closed_fine n false (λ _. 0) (λ _. 0) (λ _. 0) (λ _. 0) 0 (join_figures c.zero-like-pair.result) refl zeros tt, tt);
+        fine = (closed_fine n false (λ _. 0) (λ _. 0) (λ _. 0) (λ _. 0) 0 (join_figures c.zero_like-pair.result) refl zeros tt, tt);
       };
       fresh = (refl, tt);
     }

@@ -3,8 +3,8 @@ use Rattle.stages.proofs.Joining.{ticked}
 use Rattle.stages.proofs.Opens.{first_small}
 use Rattle.stages.proofs.join.Join.tick.Goals as goal
 
-pub overflow-add-result : goal.overflow-add-result
-overflow-add-result g c =
+pub overflow_add-result : goal.overflow_add-result
+overflow_add-result g c =
     let s = c.args.self.now in
     let a = g.A.Flow in
     let b = g.B.Flow in

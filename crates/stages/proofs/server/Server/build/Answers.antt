@@ -43,15 +43,15 @@ returns g c =
       fresh = (refl, all_append Idle (E.views x) (S.views y) c.requires.fresh c.requires.idle);
     }
 
-pub returns-in-default : goal.returns-in-default
-returns-in-default g c =
+pub returns-in_default : goal.returns-in_default
+returns-in_default g c =
     let E = g.E.Flow in
     let S = g.S.Flow in
     let x = c.args.events in
     let y = c.args.service in
     let s = c.closed.result in
     let is = c.closed.ensures.opens in
-    let refused : Err c.in-default.field-0 ≡ fits E S x y = c.in-default.ensures.value ∙ (λ i. server_answer (curves (c.pair.ensures i)) (curves (c.pair-2.ensures i))) in
+    let refused : Err c.in_default.field-0 ≡ fits E S x y = c.in_default.ensures.value ∙ (λ i. server_answer (curves (c.pair.ensures i)) (curves (c.pair-2.ensures i))) in
     let zeros = c.closed.ensures.bounds in
     record {
       built = record {

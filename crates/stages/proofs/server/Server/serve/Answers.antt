@@ -3,8 +3,8 @@ use Rattle.stages.proofs.Opens.{first_small, open_at}
 use Rattle.stages.proofs.Serving.{ticked, held}
 use Rattle.stages.proofs.server.Server.serve.Goals as goal
 
-pub overflow-add-all : goal.overflow-add-all
-overflow-add-all g c =
+pub overflow_add-all : goal.overflow_add-all
+overflow_add-all g c =
     let s = c.args.self.now in
     let e = g.E.Flow in
     let few = first_small (e.pair s.events) (e.course s.events) (e.keeps s.events c.requires.events) in

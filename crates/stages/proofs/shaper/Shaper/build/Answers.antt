@@ -34,14 +34,14 @@ returns g c =
       fresh = (refl, c.requires.fresh);
     }
 
-pub returns-in-default : goal.returns-in-default
-returns-in-default g c =
+pub returns-in_default : goal.returns-in_default
+returns-in_default g c =
     let E = g.E.Flow in
     let x = c.args.events in
     let h = c.args.table in
     let s = c.closed.result in
     let is = c.closed.ensures.opens in
-    let refused : Err c.in-default.field-0 ≡ shaper_fits E x h = c.in-default.ensures.value ∙ ap (λ (p : Pair). shaper_answer (curves p) (curve h)) c.pair.ensures in
+    let refused : Err c.in_default.field-0 ≡ shaper_fits E x h = c.in_default.ensures.value ∙ ap (λ (p : Pair). shaper_answer (curves p) (curve h)) c.pair.ensures in
     let zeros = c.closed.ensures.bounds in
     record {
       built = record {

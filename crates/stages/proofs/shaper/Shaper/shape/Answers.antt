@@ -24,8 +24,8 @@ room-allowed-requires g c =
     let long = row_length t.frame (at t) c.entries.result.now c.entries.ensures in
     record { some = omega (arith, long, t.some); few = omega (arith, long, t.few) }
 
-pub overflow-add-all : goal.overflow-add-all
-overflow-add-all g c =
+pub overflow_add-all : goal.overflow_add-all
+overflow_add-all g c =
     let s = c.args.self.now in
     let e = g.E.Flow in
     let few = first_small (e.pair s.events) (e.course s.events) (e.keeps s.events c.requires.events) in
@@ -44,5 +44,5 @@ returns g c =
           ticked g.E.Flow s _ c.draw-arrived.result c.min-passed.result c.requires
           record { count = a.count; next = a.next; same = a.same; views = a.views; sound = a.sound }
           (omega (arith, c.min-passed.ensures, c.room-allowed.ensures, allowed s.shaping.frame (at s.shaping) c.entries.result.now s.past s.shaping.some c.entries.ensures))
-          refl c.put-first.ensures refl refl refl c.if-not-self.false;
+          refl c.put_first.ensures refl refl refl c.if-not-self.false;
     }

@@ -16,7 +16,7 @@ loop-k-preserved c =
     let one : k - 1 + 1 ≡ k = omega arith in
     let back : k + 1 - 1 ≡ k = omega arith in
     let more : total (take k past) ≡ total (take (k - 1) past) + get_or past (k - 1) 0 = ap (λ n. total (take n past)) (sym one) ∙ sum_by_more (λ x. x) past (k - 1) 0 (omega (arith, c.told-past)) in (
-      omega (arith, smallest_step k f (omega arith), c.loop-k.invariant.0, c.loop-k.invariant.1, c.min-room.ensures, c.saturating-sub.ensures),
+      omega (arith, smallest_step k f (omega arith), c.loop-k.invariant.0, c.loop-k.invariant.1, c.min-room.ensures, c.saturating_sub.ensures),
       omega (arith, c.loop-k.invariant.1, ap (λ n. total (take n past)) back),
       omega (arith, c.loop-k.invariant.2, c.fits-past (k - 1)),
     )

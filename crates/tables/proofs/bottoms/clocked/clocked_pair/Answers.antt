@@ -13,8 +13,8 @@ of-requires c = clocked_graph c.args.frame c.args.period c.args.jitter (omega ar
 pub of-requires-2 : goal.of-requires-2
 of-requires-2 c = least_graph c.args.frame c.args.period c.args.jitter (omega arith) (omega arith) (omega arith)
 
-pub invariant-of-result : goal.invariant-of-result
-invariant-of-result c = keeps c.of.ensures c.of-2.ensures (λ k _. clocked_under c.args.period c.args.jitter k (omega arith))
+pub invariant_of-result : goal.invariant_of-result
+invariant_of-result c = keeps c.of.ensures c.of-2.ensures (λ k _. clocked_under c.args.period c.args.jitter k (omega arith))
 
 pub returns : goal.returns
 returns c =

@@ -6,9 +6,9 @@ use Rattle.tables.proofs.Ranges.{every_skip, every_miss}
 use Rattle.tables.proofs.Windows.{kept, broken, kept_out}
 use Rattle.tables.proofs.bottoms.recorded.keeps_most.Goals as goal
 
-pub returns-then-not-keeps-from : goal.returns-then-not-keeps-from
+pub returns-then-not-keeps_from : goal.returns-then-not-keeps_from
 unfolding kept_by
-returns-then-not-keeps-from c =
+returns-then-not-keeps_from c =
     let t = c.args.most.now in
     let xs = c.args.list.now in
     let value : false ≡ kept_by t.frame (at t) xs = search (rules, every_miss) in

@@ -7,14 +7,14 @@ use Rattle.tables.proofs.Pairs.{keeps, shows_curves}
 use Rattle.tables.proofs.Tables.{at_zero, shows_to}
 use Rattle.tables.proofs.bottoms.slotted.around.Goals as goal
 
-pub invariant-of-result : goal.invariant-of-result
-invariant-of-result c =
+pub invariant_of-result : goal.invariant_of-result
+invariant_of-result c =
     let t = c.circle-sums.result in
-    keeps c.rise-table.ensures c.growth-table.ensures
+    keeps c.rise_table.ensures c.growth_table.ensures
     (λ k _. omega (arith, growth_le (at t) (t.frame - 1) k, deconvolved_ge (at t) (at t) (t.frame - 1) k (at_zero t)))
 
 pub returns : goal.returns
 returns c =
     let s = recorded c.args.counts.now in
     let shows = c.circle-sums.ensures in
-    shows_curves (shows_to shows.frame (λ k _. most_around s shows k) c.rise-table.ensures) (shows_to shows.frame (λ k _. least_around s shows k) c.growth-table.ensures)
+    shows_curves (shows_to shows.frame (λ k _. most_around s shows k) c.rise_table.ensures) (shows_to shows.frame (λ k _. least_around s shows k) c.growth_table.ensures)

@@ -7,8 +7,8 @@ use Rattle.tables.proofs.bottoms.slotted.running_sums.Goals as goal
 pub loop-k-init : goal.loop-k-init
 loop-k-init c = filled_one refl refl refl
 
-pub overflow-add-sums : goal.overflow-add-sums
-overflow-add-sums c =
+pub overflow_add-sums : goal.overflow_add-sums
+overflow_add-sums c =
     let s = recorded c.args.counts.now in
     let k = c.loop-k.k in
     omega (arith, c.loop-k.invariant.each k (omega arith), sum_more s k, sum_rises s (k + 1) (length c.args.counts.now) (omega arith), c.requires.low)

@@ -7,8 +7,8 @@ use Rattle.tables.proofs.Clocks.{line_low, line_graph}
 use Rattle.tables.proofs.Pairs.{shows_curves}
 use Rattle.tables.proofs.bottoms.steady.steady_pair.Goals as goal
 
-pub invariant-of-of : goal.invariant-of-of
-invariant-of-of c = (line_low c.args.frame c.args.count (omega arith) (omega arith), tt)
+pub invariant_of-of : goal.invariant_of-of
+invariant_of-of c = record { low = line_low c.args.frame c.args.count (omega arith) (omega arith) }
 
 pub of-table-requires : goal.of-table-requires
 of-table-requires c = line_graph c.args.frame c.args.count (omega arith) (omega arith) (omega arith)

@@ -13,8 +13,8 @@ of-requires c = search (rules, lawful_graph)
 pub of-requires-2 : goal.of-requires-2
 of-requires-2 c = search (rules, lawful_graph)
 
-pub invariant-of-result : goal.invariant-of-result
-invariant-of-result c =
+pub invariant_of-result : goal.invariant_of-result
+invariant_of-result c =
     let xs = c.args.most.now in
     let ys = c.args.least.now in
     keeps c.of.ensures c.of-2.ensures (under_each (length xs) (given xs) (given ys) (search rules) (omega arith))

@@ -5,10 +5,10 @@ use Rattle.tables.proofs.Tables.{repeated_later, repeated_le, repeated_within}
 use Rattle.tables.proofs.table.Table.of.Goals as goal
 
 pub loop-k-init : goal.loop-k-init
-loop-k-init g c = filled_front c.requires (search rules) c.fill-front-entries.ensures
+loop-k-init g c = filled_front c.requires (search rules) c.fill_front-entries.ensures
 
-pub overflow-add-entries : goal.overflow-add-entries
-overflow-add-entries g c =
+pub overflow_add-entries : goal.overflow_add-entries
+overflow_add-entries g c =
     let f = g.F.Fill.fills c.args.fill.now in
     let j = c.loop-k.k - c.args.frame in
     omega (arith, c.loop-k.invariant.each j (omega arith), c.loop-k.invariant.each c.args.frame (omega arith), repeated_le c.requires j, repeated_le c.requires c.args.frame)
@@ -22,8 +22,8 @@ loop-k-preserved g c =
     filled_more c.loop-k.invariant (omega arith)
     (omega (arith, c.loop-k.invariant.each j (omega arith), c.loop-k.invariant.each n (omega arith), repeated_later n f c.requires.some j, ap (repeated n f) whole, repeated_within n f c.requires.some c.requires.starts n (omega arith)))
 
-pub invariant-of-result : goal.invariant-of-result
-invariant-of-result g c = laid_out c.requires c.loop-k.invariant (omega arith)
+pub invariant_of-result : goal.invariant_of-result
+invariant_of-result g c = laid_out c.requires c.loop-k.invariant (omega arith)
 
 pub returns : goal.returns
 returns g c = record { frame = refl; each = λ k h. c.loop-k.invariant.each k (omega arith) ∙ repeated_within _ _ c.requires.some c.requires.starts k h }

@@ -1,5 +1,5 @@
 use Rattle.std.proofs.Common.{◌-◌, ◌&&◌, leb}
-use Rattle.tables.specs.Curves.{goal as counted}
+use Rattle.tables.specs.Curves.{given as counted}
 use Rattle.tables.specs.Limits.{limit}
 use Rattle.tables.specs.Ranges.{every}
 use Rattle.tables.proofs.Ranges.{Left}
