@@ -28,7 +28,7 @@ module _ (w : ℕ) (a c : ℕ → ℕ) where
   after_tail = (λ i. server_after (sym after_one i) (sym (later_tail a) i) (sym (later_tail c) i)) ∙ server_after_later w a c 1 ∙ later_tail (server_after w a c)
 
 module _ {X Y : Type 0} (E : Ghosts X) (S : Ghosts Y) where
-  pub ticked : (s t : Server X Y) (a c p : ℕ) → ServerSound E S s
+  pub ticked : (s t : Server X Y E S) (a c p : ℕ) → ServerSound E S s
       → Drawn E s.events a t.events → Drawn S s.service c t.service
       → p ≡ min (s.waiting + a) c → t.waiting ≡ (s.waiting + a) - p
       → t.bounds ≡ s.bounds → t.is_open ≡ s.is_open → s.is_open ≡ true
@@ -78,6 +78,6 @@ module _ {X Y : Type 0} (E : Ghosts X) (S : Ghosts Y) where
       }
 
   -- what an open server has waiting is within its wait
-  pub held : (s : Server X Y) → ServerSound E S s → s.is_open ≡ true → s.waiting ≤ s.bounds.wait
+  pub held : (s : Server X Y E S) → ServerSound E S s → s.is_open ≡ true → s.waiting ≤ s.bounds.wait
   unfolding server_after
   held s h is = omega (arith, h.fine.0.within 0, open_at (server_after s.waiting (E.course s.events) (S.course s.service)) 0 s.waiting is refl)

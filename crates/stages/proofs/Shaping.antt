@@ -110,7 +110,7 @@ module _ {X : Type 0} (E : Ghosts X) where
             omega (arith, (hold (t + d)).out d (λ k l. omega (arith, shortest.enough k (omega (arith, F.frame)), ap (λ (f : ℕ → ℕ). f (k + d)) again)) t (omega arith));
       }
 
-  pub ticked : (s t : Shaper X) (a p : ℕ) → ShaperSound E s → Drawn E s.events a t.events
+  pub ticked : (s t : Shaper X E) (a p : ℕ) → ShaperSound E s → Drawn E s.events a t.events
       → p ≡ min (s.waiting + a) (smallest (s.shaping.frame - 1) (λ k. at s.shaping (k + 1) - total (take k s.past)))
       → t.waiting ≡ (s.waiting + a) - p → t.past ≡ p ∷ take 63 s.past
       → t.shaping ≡ s.shaping → t.bounds ≡ s.bounds → t.is_open ≡ s.is_open → s.is_open ≡ true
@@ -153,6 +153,6 @@ module _ {X : Type 0} (E : Ghosts X) where
       }
 
   -- what an open shaper has waiting is within its wait
-  pub held : (s : Shaper X) → ShaperSound E s → s.is_open ≡ true → s.waiting ≤ s.bounds.wait
+  pub held : (s : Shaper X E) → ShaperSound E s → s.is_open ≡ true → s.waiting ≤ s.bounds.wait
   unfolding shaper_after
   held s h is = omega (arith, h.fine.0.within 0, open_at (λ t. (shaper_after s.shaping.frame (at s.shaping) (state E s) (E.course s.events) t).backlog) 0 s.waiting is refl)

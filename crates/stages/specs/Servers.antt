@@ -27,22 +27,22 @@ serving_or_closed n (Err e) = closed_serving n
 
 module _ {X Y : Type 0} (E : Ghosts X) (S : Ghosts Y) where
   -- what comes in each coming tick: events, and places for them
-  abbrev pub arrival : Server X Y → ℕ → ℕ
+  abbrev pub arrival : Server X Y E S → ℕ → ℕ
   arrival s = open_course s.is_open (E.course s.events)
 
   -- what it passes, by its rule from what waits and the courses below
-  abbrev pub passing : Server X Y → ℕ → ℕ
+  abbrev pub passing : Server X Y E S → ℕ → ℕ
   passing s = open_course s.is_open (served s.waiting (E.course s.events) (S.course s.service))
 
   -- what it leaves of the service
-  abbrev pub resting : Server X Y → ℕ → ℕ
+  abbrev pub resting : Server X Y E S → ℕ → ℕ
   resting s = open_course s.is_open (rest (S.course s.service) (served s.waiting (E.course s.events) (S.course s.service)))
 
   -- what waits after each number of ticks
-  abbrev pub queue : Server X Y → ℕ → ℕ
+  abbrev pub queue : Server X Y E S → ℕ → ℕ
   queue s = open_course s.is_open (server_after s.waiting (E.course s.events) (S.course s.service))
 
-  abbrev pub server_view : Server X Y → View
+  abbrev pub server_view : Server X Y E S → View
   server_view s = record {
     arrived = arrival s;
     passed = passing s;
@@ -53,14 +53,14 @@ module _ {X Y : Type 0} (E : Ghosts X) (S : Ghosts Y) where
   }
 
   -- the stages below, and all from this one down
-  abbrev pub server_below : Server X Y → List View
+  abbrev pub server_below : Server X Y E S → List View
   server_below s = open_views s.is_open (E.views s.events ++ S.views s.service)
 
-  abbrev pub server_views : Server X Y → List View
+  abbrev pub server_views : Server X Y E S → List View
   server_views s = server_view s ∷ server_below s
 
   -- what each state that can be reached has
-  pub record ServerSound (s : Server X Y) : Type 0 where
+  pub record ServerSound (s : Server X Y E S) : Type 0 where
     pub events : E.sound s.events
     pub service : S.sound s.service
     pub fine : All Fine (server_views s)
@@ -70,7 +70,7 @@ module _ {X Y : Type 0} (E : Ghosts X) (S : Ghosts Y) where
   fits e s = server_answer (curves (E.pair e)) (curves (S.pair s))
 
   -- a server as it is built: nothing waits, and its bounds are those of the tables, or it is closed
-  pub record ServerBuilt (e : X) (s : Y) (r : Server X Y) : Type 0 where
+  pub record ServerBuilt (e : X) (s : Y) (r : Server X Y E S) : Type 0 where
     pub events : r.events ≡ e
     pub service : r.service ≡ s
     pub idle : r.waiting ≡ 0
@@ -78,7 +78,7 @@ module _ {X Y : Type 0} (E : Ghosts X) (S : Ghosts Y) where
     pub bounds : serving r.bounds ≡ serving_or_closed (E.pair e).most.frame (fits e s)
 
   -- a tick from s to t that passes p and leaves r
-  pub record ServerTicked (s t : Server X Y) (p r : ℕ) : Type 0 where
+  pub record ServerTicked (s t : Server X Y E S) (p r : ℕ) : Type 0 where
     pub passed : p ≡ passing s 0
     pub rest : r ≡ resting s 0
     pub next : passing t ≡ tail (passing s)

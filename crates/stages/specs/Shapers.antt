@@ -28,21 +28,21 @@ shaping_or_closed n (Err e) = closed_shaping n
 
 module _ {X : Type 0} (E : Ghosts X) where
   -- what waits and what was passed lately
-  abbrev pub state : Shaper X → Shaping
+  abbrev pub state : Shaper X E → Shaping
   state s = record { backlog = s.waiting; past = s.past }
 
-  abbrev pub shaper_arrival : Shaper X → ℕ → ℕ
+  abbrev pub shaper_arrival : Shaper X E → ℕ → ℕ
   shaper_arrival s = open_course s.is_open (E.course s.events)
 
   -- what it passes, by its rule from what waits, what was passed lately and the course below
-  abbrev pub shaping_course : Shaper X → ℕ → ℕ
+  abbrev pub shaping_course : Shaper X E → ℕ → ℕ
   shaping_course s = open_course s.is_open (shaped s.shaping.frame (at s.shaping) (state s) (E.course s.events))
 
   -- what waits after each number of ticks
-  abbrev pub shaper_queue : Shaper X → ℕ → ℕ
+  abbrev pub shaper_queue : Shaper X E → ℕ → ℕ
   shaper_queue s = open_course s.is_open (λ t. (shaper_after s.shaping.frame (at s.shaping) (state s) (E.course s.events) t).backlog)
 
-  abbrev pub shaper_view : Shaper X → View
+  abbrev pub shaper_view : Shaper X E → View
   shaper_view s = record {
     arrived = shaper_arrival s;
     passed = shaping_course s;
@@ -53,14 +53,14 @@ module _ {X : Type 0} (E : Ghosts X) where
   }
 
   -- the stages below, and all from this one down
-  abbrev pub shaper_below : Shaper X → List View
+  abbrev pub shaper_below : Shaper X E → List View
   shaper_below s = open_views s.is_open (E.views s.events)
 
-  abbrev pub shaper_views : Shaper X → List View
+  abbrev pub shaper_views : Shaper X E → List View
   shaper_views s = shaper_view s ∷ shaper_below s
 
   -- what each state that can be reached has
-  pub record ShaperSound (s : Shaper X) : Type 0 where
+  pub record ShaperSound (s : Shaper X E) : Type 0 where
     pub events : E.sound s.events
     pub fine : All Fine (shaper_views s)
 
@@ -69,7 +69,7 @@ module _ {X : Type 0} (E : Ghosts X) where
   shaper_fits e h = shaper_answer (curves (E.pair e)) (curve h)
 
   -- a shaper as it is built
-  pub record ShaperBuilt (e : X) (h : Table) (r : Shaper X) : Type 0 where
+  pub record ShaperBuilt (e : X) (h : Table) (r : Shaper X E) : Type 0 where
     pub events : r.events ≡ e
     pub table : r.shaping ≡ h
     pub idle : state r ≡ empty
@@ -77,7 +77,7 @@ module _ {X : Type 0} (E : Ghosts X) where
     pub bounds : shaping r.bounds ≡ shaping_or_closed (E.pair e).most.frame (shaper_fits e h)
 
   -- a tick from s to t that passes p
-  pub record ShaperTicked (s t : Shaper X) (p : ℕ) : Type 0 where
+  pub record ShaperTicked (s t : Shaper X E) (p : ℕ) : Type 0 where
     pub passed : p ≡ shaping_course s 0
     pub next : shaping_course t ≡ tail (shaping_course s)
     pub same : t.bounds ≡ s.bounds

@@ -17,9 +17,9 @@ returns-clause-writes g c = λ plain ok.
     let t1 : List ℕ = first_text (curves c.first.result.now) in
     let t2 : List ℕ = lines_text 2 (map staged c.lines.result.now) in
     let t3 : List ℕ = totals_text c.totals.result.wait c.totals.result.delay in
-    let first = c.in_ok-fmt.ensures plain (refl {a = true}) in
-    let second = c.in_ok-fmt-2.ensures first.plain (refl {a = true}) in
-    let third = c.fmt-3.ensures second.plain ok in
+    let first = c.in_ok-fmt.ensures.writes plain (refl {a = true}) in
+    let second = c.in_ok-fmt-2.ensures.writes first.plain (refl {a = true}) in
+    let third = c.fmt-3.ensures.writes second.plain ok in
     let pair = ap curves c.first.ensures in
     has_written_of_eq took start (t1 ++ (t2 ++ t3)) (listing_text a) end
     (λ i. first_text (pair i) ++ (lines_text 2 (c.lines.ensures.value i) ++ totals_text (c.totals.ensures.wait i) (c.totals.ensures.delay i)))

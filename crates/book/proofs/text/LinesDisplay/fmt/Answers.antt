@@ -19,7 +19,7 @@ pub loop-i-preserved : goal.loop-i-preserved
 loop-i-preserved g c = λ plain.
     let before = c.loop-i.invariant plain in
     let l = c.line-item.result in
-    let here = c.in_ok-fmt.ensures before.plain (refl {a = true}) in
+    let here = c.in_ok-fmt.ensures.writes before.plain (refl {a = true}) in
     put_item all one (λ _. refl) (λ _ x xs. refl)
     g.W.Write.write_str_gives c.args.f.now c.loop-i.f 2 c.args.self.now.lines.now c.loop-i.i
     c.fmt.new.f l c.loop-i-test.true before
