@@ -37,8 +37,8 @@ all_kept n [] h z = tt
 all_kept n (v ∷ vs) h z = (kept_to n v h.0 z.0, all_kept n vs h.1 z.1)
 
 -- a run that has come to nothing yet is the run at power-on
-pub at_start : {X : Type 0} (x : X) (f g : 0 ≤ 0 * 4294967295) → ◌≡◌ {A = Running X} (record { network = x; ticks = 0; arrived = 0; passed = 0; greatest = 0; few = f; least = g }) (started x)
-at_start x f g = λ i. record { network = x; ticks = 0; arrived = 0; passed = 0; greatest = 0; few = le_prop f (started x).few i; least = le_prop g (started x).least i }
+pub at_start : {X : Type 0} (F : flow.Ghosts X) (P : stage.Ghosts X) (x : X) (f g : 0 ≤ 0 * 4294967295) → ◌≡◌ {A = Running X P F} (record { network = x; ticks = 0; arrived = 0; passed = 0; greatest = 0; few = f; least = g }) (started x)
+at_start F P x f g = λ i. record { network = x; ticks = 0; arrived = 0; passed = 0; greatest = 0; few = le_prop f (started {F = F} {P = P} x).few i; least = le_prop g (started {F = F} {P = P} x).least i }
 
 -- views some ticks on
 none_more : (t : ℕ) → t ≡ 0 + t
@@ -90,7 +90,7 @@ written_more n f old xs ys c w room is new =
 
 module _ {X : Type 0} (F : flow.Ghosts X) (P : stage.Ghosts X) where
   -- what a run and its log have come to, from r and l
-  pub record Come (r : Running X) (l : Lists) (s : Running X) (m : Lists) : Type 0 where
+  pub record Come (r : Running X P F) (l : Lists) (s : Running X P F) (m : Lists) : Type 0 where
     views : F.views s.network ≡ map (on s.ticks) (F.views r.network)
     top : P.top s.network ≡ on s.ticks (P.top r.network)
     arrived : Written s.ticks (P.top r.network).arrived l.arrived m.arrived
@@ -101,7 +101,7 @@ module _ {X : Type 0} (F : flow.Ghosts X) (P : stage.Ghosts X) where
     greatest : s.greatest ≡ largest s.ticks (P.top r.network).waits
     sound : F.sound s.network
 
-  come_none : (r : Running X) (l : Lists) → r.ticks ≡ 0 → r.arrived ≡ 0 → r.passed ≡ 0 → r.greatest ≡ 0 → Idle (P.top r.network) → F.sound r.network → Come r l r l
+  come_none : (r : Running X P F) (l : Lists) → r.ticks ≡ 0 → r.arrived ≡ 0 → r.passed ≡ 0 → r.greatest ≡ 0 → Idle (P.top r.network) → F.sound r.network → Come r l r l
   unfolding largest
   come_none r l zt za zp zg idle h =
       let v = P.top r.network in
@@ -117,7 +117,7 @@ module _ {X : Type 0} (F : flow.Ghosts X) (P : stage.Ghosts X) where
         sound = h;
       }
 
-  come_more : (r : Running X) (l : Lists) (s : Running X) (m : Lists) (t : Running X) (n : Lists) (c : Counts) → Come r l s m → Went F P s m t n c → Come r l t n
+  come_more : (r : Running X P F) (l : Lists) (s : Running X P F) (m : Lists) (t : Running X P F) (n : Lists) (c : Counts) → Come r l s m → Went F P s m t n c → Come r l t n
   unfolding largest
   come_more r l s m t n c h w =
       let v = P.top r.network in
@@ -139,18 +139,18 @@ module _ {X : Type 0} (F : flow.Ghosts X) (P : stage.Ghosts X) where
         sound = w.sound;
       }
 
-  come_ticked : (r : Running X) (l : Lists) (s : Running X) (m : Lists) (t : Running X) (n : Lists) (a : Result Counts _) → Come r l s m → Ticked F P s m t n a → Come r l t n
+  come_ticked : (r : Running X P F) (l : Lists) (s : Running X P F) (m : Lists) (t : Running X P F) (n : Lists) (a : Result Counts _) → Come r l s m → Ticked F P s m t n a → Come r l t n
   come_ticked r l s m t n (Ok c) h w = come_more r l s m t n c h w.1
   come_ticked r l s m t n (Err e) h w = subst (Come r l t) (sym w.1.log) (subst (λ x. Come r l x m) (sym w.1.run) h)
 
-  module _ {M : Type 0} (s : State X M) (start : Come s.run s.log s.run s.log) (empty : s.held ≡ []) where
+  module _ {M : Type 0} (s : State F P M) (start : Come s.run s.log s.run s.log) (empty : s.held ≡ []) where
     -- what holds after each call
-    record After (i o : List M) (t : State X M) : Type 0 where
+    record After (i o : List M) (t : State F P M) : Type 0 where
       come : Come s.run s.log t.run t.log
       order : i ≡ o ++ t.held
       slots : t.slots ≡ s.slots
 
-    after_carry : (i o : List M) (t u : State X M) (ins outs after : List M) (a : Result Counts _) → After i o t → Carried F P t u ins outs after a → After (i ++ taken F P a ins) (o ++ given F P a after) u
+    after_carry : (i o : List M) (t u : State F P M) (ins outs after : List M) (a : Result Counts _) → After i o t → Carried F P t u ins outs after a → After (i ++ taken F P a ins) (o ++ given F P a after) u
     after_carry i o t u ins outs after (Ok c) h w = record {
       come = come_more s.run s.log t.run t.log u.run u.log c h.come w.1.went;
       order =
@@ -162,14 +162,14 @@ module _ {X : Type 0} (F : flow.Ghosts X) (P : stage.Ghosts X) where
         subst (λ x. After (i ++ []) (o ++ []) x) (sym w.1.state)
         (record { come = h.come; order = append-nil i ∙ h.order ∙ ap (λ x. x ++ t.held) (sym (append-nil o)); slots = h.slots })
 
-    after : {i o : List M} {t : State X M} → Runs F P s i o t → After i o t
+    after : {i o : List M} {t : State F P M} → Runs F P s i o t → After i o t
     after none = record { come = start; order = sym empty; slots = refl }
     after (tick {t = t} r l a before w) =
         let h = after before in
         record { come = come_ticked s.run s.log t.run t.log r l a h.come w; order = h.order; slots = h.slots }
     after (carry {i = i} {o = o} {t = t} u ins outs out a before w) = after_carry i o t u ins outs out a (after before) w
 
-    pub kept : All Fine (F.views s.run.network) → All Idle (F.views s.run.network) → (i o : List M) (t : State X M) → Runs F P s i o t → Kept F P s i o t
+    pub kept : All Fine (F.views s.run.network) → All Idle (F.views s.run.network) → (i o : List M) (t : State F P M) → Runs F P s i o t → Kept F P s i o t
     kept fine idle i o t runs =
         let h = after runs in
         record {
@@ -187,6 +187,7 @@ module _ {X : Type 0} (F : flow.Ghosts X) (P : stage.Ghosts X) where
           sound = h.come.sound;
         }
 
-  pub every : {M : Type 0} (x : X) (held : List M) → Idle (P.top x) → F.sound x → All Fine (F.views x) → All Idle (F.views x) → held ≡ [] → EveryRun F P (started x) held
-  every x held idle h fine all empty l n =
-      kept (record { run = started x; log = l; held = held; slots = n }) (come_none (started x) l refl refl refl refl idle h) empty fine all
+  pub every : {M : Type 0} (r : Running X P F) (held : List M) → r.ticks ≡ 0 → r.arrived ≡ 0 → r.passed ≡ 0 → r.greatest ≡ 0 → Idle (P.top r.network) → F.sound r.network
+      → All Fine (F.views r.network) → All Idle (F.views r.network) → held ≡ [] → EveryRun F P r held
+  every r held zt za zp zg idle h fine all empty l n =
+      kept (record { run = r; log = l; held = held; slots = n }) (come_none r l zt za zp zg idle h) empty fine all

@@ -34,8 +34,8 @@ tick_given : (a : Result Counts Refusal) (d : Done) → (past_tick a d).given �
 tick_given (Ok c) d = refl
 tick_given (Err e) d = refl
 
-module _ {X M : Type 0} (F : flow.Ghosts X) (P : stage.Ghosts X) (ins : List M) (d : Desk X M) where
-  pub record Listed (e : Desk X M) : Type 0 where
+module _ {X M : Type 0} (F : flow.Ghosts X) (P : stage.Ghosts X) (ins : List M) (d : Desk F P M) where
+  pub record Listed (e : Desk F P M) : Type 0 where
     pub run : Runs F P d.state (take e.done.taken ins) (take e.done.given e.outs) e.state
     pub taken : e.done.taken ≤ length ins
     pub given : e.done.given ≤ length e.outs
@@ -47,7 +47,7 @@ module _ {X M : Type 0} (F : flow.Ghosts X) (P : stage.Ghosts X) (ins : List M) 
     given = omega (arith, zg);
   }
 
-  tick_listed : (e f : Desk X M) → Listed e → TickDone F P ins e f → Listed f
+  tick_listed : (e f : Desk F P M) → Listed e → TickDone F P ins e f → Listed f
   tick_listed e f h w =
       let tk : e.done.taken ≡ f.done.taken = sym (ap (λ (x : Done). x.taken) w.done ∙ tick_taken w.answer e.done) in
       let gv : e.done.given ≡ f.done.given = sym (ap (λ (x : Done). x.given) w.done ∙ tick_given w.answer e.done) in
@@ -59,14 +59,14 @@ module _ {X M : Type 0} (F : flow.Ghosts X) (P : stage.Ghosts X) (ins : List M) 
         given = omega (arith, gv, h.given, ap length w.outs);
       }
 
-  carry_listed : (n m : ℕ) (e f : Desk X M) (a : Result Counts Refusal)
+  carry_listed : (n m : ℕ) (e f : Desk F P M) (a : Result Counts Refusal)
       → Carried F P e.state f.state (part ins e.done.taken n) (part e.outs e.done.given m) (part f.outs e.done.given m) a
       → take e.done.given f.outs ≡ take e.done.given e.outs → length f.outs ≡ length e.outs → f.done ≡ past_carry a e.done → Listed e → Listed f
   carry_listed n m e f (Ok c) w before long done h =
-      let few = part_few ins e.done.taken n c.arrived h.taken w.1.in_List in
+      let few = part_few ins e.done.taken n c.arrived h.taken w.1.in_list in
       let fit = part_few e.outs e.done.given m c.passed h.given w.1.out_list in
       let short : c.passed ≤ length (part f.outs e.done.given m) = omega (arith, w.1.out_list, part_as_long e.outs f.outs e.done.given m long) in
-      let i = first_more ins e.done.taken n c.arrived w.1.in_List ∙ ap (λ (x : Done). take x.taken ins) (sym done) in
+      let i = first_more ins e.done.taken n c.arrived w.1.in_list ∙ ap (λ (x : Done). take x.taken ins) (sym done) in
       let o = ap (λ xs. xs ++ take c.passed (part f.outs e.done.given m)) (sym before) ∙ first_more f.outs e.done.given m c.passed short ∙ ap (λ (x : Done). take x.given f.outs) (sym done) in
       record {
         run =
@@ -86,7 +86,7 @@ module _ {X M : Type 0} (F : flow.Ghosts X) (P : stage.Ghosts X) (ins : List M) 
         given = omega (arith, h.given, long, ap (λ (x : Done). x.given) done);
       }
 
-  pub listed : {cs : List Call} {e : Desk X M} → d.done.taken ≡ 0 → d.done.given ≡ 0 → Through F P ins d cs e → Listed e
+  pub listed : {cs : List Call} {e : Desk F P M} → d.done.taken ≡ 0 → d.done.given ≡ 0 → Through F P ins d cs e → Listed e
   listed zt zg none = none_listed zt zg
   listed zt zg (next {e = e} Tick f before w) = tick_listed e f (listed zt zg before) w
   listed zt zg (next {e = e} (Carry n m) f before w) = carry_listed n m e f w.answer w.carried w.before w.long w.done (listed zt zg before)
@@ -104,22 +104,22 @@ on_long : (k l m : Lists) → AsLong k l → AsLong l m → AsLong k m
 on_long k l m g h = record { arrived = h.arrived ∙ g.arrived; passed = h.passed ∙ g.passed; waiting = h.waiting ∙ g.waiting }
 
 module _ {X : Type 0} (F : flow.Ghosts X) (P : stage.Ghosts X) where
-  went_long : (r : Running X) (l : Lists) (s : Running X) (m : Lists) (c : Counts) → Went F P r l s m c → AsLong l m
+  went_long : (r : Running X P F) (l : Lists) (s : Running X P F) (m : Lists) (c : Counts) → Went F P r l s m c → AsLong l m
   went_long r l s m c w = record {
     arrived = ap length w.log_arrived ∙ length-set l.arrived r.ticks c.arrived;
     passed = ap length w.log_passed ∙ length-set l.passed r.ticks c.passed;
     waiting = ap length w.log_waiting ∙ length-set l.waiting r.ticks c.waiting;
   }
 
-  ticked_long : (r : Running X) (l : Lists) (s : Running X) (m : Lists) (a : Result Counts Refusal) → Ticked F P r l s m a → AsLong l m
+  ticked_long : (r : Running X P F) (l : Lists) (s : Running X P F) (m : Lists) (a : Result Counts Refusal) → Ticked F P r l s m a → AsLong l m
   ticked_long r l s m (Ok c) w = went_long r l s m c w.1
   ticked_long r l s m (Err e) w = same_long l m w.1.log
 
-  carried_long : {M : Type 0} (s t : State X M) (ins outs after : List M) (a : Result Counts Refusal) → Carried F P s t ins outs after a → AsLong s.log t.log
+  carried_long : {M : Type 0} (s t : State F P M) (ins outs after : List M) (a : Result Counts Refusal) → Carried F P s t ins outs after a → AsLong s.log t.log
   carried_long s t ins outs after (Ok c) w = went_long s.run s.log t.run t.log c w.1.went
-  carried_long {M} s t ins outs after (Err e) w = same_long s.log t.log (ap (λ (x : State X M). x.log) w.1.state)
+  carried_long {M} s t ins outs after (Err e) w = same_long s.log t.log (ap (λ (x : State F P M). x.log) w.1.state)
 
-  pub as_long : {M : Type 0} (ins : List M) (d : Desk X M) {cs : List Call} {e : Desk X M} → Through F P ins d cs e → AsLong d.state.log e.state.log
+  pub as_long : {M : Type 0} (ins : List M) (d : Desk F P M) {cs : List Call} {e : Desk F P M} → Through F P ins d cs e → AsLong d.state.log e.state.log
   as_long ins d none = same_long d.state.log d.state.log refl
   as_long ins d (next {e = e} Tick f before w) = on_long d.state.log e.state.log f.state.log (as_long ins d before) (ticked_long e.state.run e.state.log f.state.run f.state.log w.answer w.ticked)
   as_long ins d (next {e = e} (Carry n m) f before w) = on_long d.state.log e.state.log f.state.log (as_long ins d before) (carried_long e.state f.state _ _ _ w.answer w.carried)

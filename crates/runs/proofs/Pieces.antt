@@ -54,7 +54,7 @@ pub part_few : {X : Type 0} (xs : List X) (from n k : ℕ) → from ≤ length x
 part_few xs from n k l h = omega (arith, h, length-take n (drop from xs), length-drop from xs)
 
 -- a carry of the parts, as a call of a list
-pub carry_done : {X M : Type 0} (F : flow.Ghosts X) (P : stage.Ghosts X) (ins outs ys : List M) (s t : State X M) (call : Call) (n m k j : ℕ) (d : Done) (a : Result Counts Refusal) → call ≡ Carry n m
+pub carry_done : {X M : Type 0} (F : flow.Ghosts X) (P : stage.Ghosts X) (ins outs ys : List M) (s t : State F P M) (call : Call) (n m k j : ℕ) (d : Done) (a : Result Counts Refusal) → call ≡ Carry n m
     → d.taken ≤ length ins → d.given ≤ length outs → k ≡ min n (length ins - d.taken) → j ≡ min m (length outs - d.given) → length ys ≡ (d.given + j) - d.given
     → Carried F P s t (take ((d.taken + k) - d.taken) (drop d.taken ins)) (take ((d.given + j) - d.given) (drop d.given outs)) ys a
     → Called F P ins call (record { state = s; outs = outs; done = d }) (record { state = t; outs = put_mid d.given ((d.given + j) - d.given) outs ys; done = past_carry a d })

@@ -25,7 +25,7 @@ none_refuses a b c d true false true missed h = let z : ◌≡◌ {A = ℕ} 0 1 
 none_refuses a b c d true true small missed h = let z : ◌≡◌ {A = ℕ} 0 1 = cc in absurd (omega arith)
 none_refuses a b c d false short small missed h = let z : ◌≡◌ {A = ℕ} 0 1 = cc in absurd (omega arith)
 
-module _ {X M : Type 0} (F : flow.Ghosts X) (P : stage.Ghosts X) (s : State X M) (ins outs : List M) where
+module _ {X M : Type 0} (F : flow.Ghosts X) (P : stage.Ghosts X) (s : State F P M) (ins outs : List M) where
   pub record Ready : Type 0 where
     pub place : s.run.ticks < places s.log
     pub in_list : (P.top s.run.network).arriving ≤ length ins

@@ -13,12 +13,12 @@ use Rattle.runs.specs.declared.states.Running.{Running}
 use Rattle.runs.specs.Runs.{State, cabinet, Ticked, Carried}
 
 -- a cabinet at one time, its out-list, and how far the lists are used
-pub record Desk (X M : Type 0) : Type 0 where
-  pub state : State X M
+pub record Desk {X : Type 0} (F : flow.Ghosts X) (P : stage.Ghosts X) (M : Type 0) : Type 0 where
+  pub state : State F P M
   pub outs : List M
   pub done : Done
 
-abbrev pub desk : {X M : Type 0} → Running X → Log → Ring M → List M → Done → Desk X M
+abbrev pub desk : {X M : Type 0} {F : flow.Ghosts X} {P : stage.Ghosts X} → Running X P F → Log → Ring M → List M → Done → Desk F P M
 desk r l g outs d = record { state = cabinet r l g; outs = outs; done = d }
 
 -- n of a list from a place on, or all that are left
@@ -40,7 +40,7 @@ past_carry (Err e) d = record { taken = d.taken; given = d.given; refused = d.re
 
 module _ {X : Type 0} (F : flow.Ghosts X) (P : stage.Ghosts X) {M : Type 0} (ins : List M) where
   -- a tick of the list: the ring and the out-list are as they were
-  pub record TickDone (d e : Desk X M) : Type 0 where
+  pub record TickDone (d e : Desk F P M) : Type 0 where
     pub answer : Result Counts Refusal
     pub ticked : Ticked F P d.state.run d.state.log e.state.run e.state.log answer
     pub held : e.state.held ≡ d.state.held
@@ -49,7 +49,7 @@ module _ {X : Type 0} (F : flow.Ghosts X) (P : stage.Ghosts X) {M : Type 0} (ins
     pub done : e.done ≡ past_tick answer d.done
 
   -- a carry of the list, from the next n of the in-list to the next m places of the out-list; the other places are as they were
-  pub record CarryDone (n m : ℕ) (d e : Desk X M) : Type 0 where
+  pub record CarryDone (n m : ℕ) (d e : Desk F P M) : Type 0 where
     pub answer : Result Counts Refusal
     pub carried : Carried F P d.state e.state (part ins d.done.taken n) (part d.outs d.done.given m) (part e.outs d.done.given m) answer
     pub before : take d.done.given e.outs ≡ take d.done.given d.outs
@@ -57,11 +57,11 @@ module _ {X : Type 0} (F : flow.Ghosts X) (P : stage.Ghosts X) {M : Type 0} (ins
     pub long : length e.outs ≡ length d.outs
     pub done : e.done ≡ past_carry answer d.done
 
-  abbrev pub Called : Call → Desk X M → Desk X M → Type 0
+  abbrev pub Called : Call → Desk F P M → Desk F P M → Type 0
   Called Tick d e = TickDone d e
   Called (Carry n m) d e = CarryDone n m d e
 
   -- from d, call after call
-  pub data Through (d : Desk X M) : List Call → Desk X M → Type 0 where
+  pub data Through (d : Desk F P M) : List Call → Desk F P M → Type 0 where
     none : Through d [] d
-    next : {cs : List Call} {e : Desk X M} (c : Call) (f : Desk X M) → Through d cs e → Called c e f → Through d (cs ++ c ∷ []) f
+    next : {cs : List Call} {e : Desk F P M} (c : Call) (f : Desk F P M) → Through d cs e → Called c e f → Through d (cs ++ c ∷ []) f

@@ -11,7 +11,7 @@ use Rattle.flows.specs.Views.{View, All, next_view}
 use Rattle.flows.specs.declared.flow.Flow as flow
 use Rattle.stages.specs.declared.stage.Counts.{Counts}
 use Rattle.stages.specs.declared.stage.Stage as stage
-use Rattle.runs.specs.Held.{holds, room as slots-of}
+use Rattle.runs.specs.Held.{holds, room as slots_of}
 use Rattle.runs.specs.declared.log.Log.{Log}
 use Rattle.runs.specs.declared.slots.Ring.{Ring}
 use Rattle.runs.specs.declared.states.Running.{Running}
@@ -56,30 +56,30 @@ pub record Written (n : ℕ) (f : ℕ → ℕ) (old new : List ℕ) : Type 0 whe
   pub others : (k : ℕ) → n ≤ k → slice_index new k ≡ slice_index old k
 
 -- a cabinet at one time: its run, its log, what its ring holds, and how many slots the ring has
-pub record State (X M : Type 0) : Type 0 where
-  pub run : Running X
+pub record State {X : Type 0} (F : flow.Ghosts X) (P : stage.Ghosts X) (M : Type 0) : Type 0 where
+  pub run : Running X P F
   pub log : Lists
   pub held : List M
   pub slots : ℕ
 
-abbrev pub cabinet : {X M : Type 0} → Running X → Log → Ring M → State X M
-cabinet r l g = record { run = r; log = lists l; held = holds g; slots = slots-of g }
+abbrev pub cabinet : {X M : Type 0} {F : flow.Ghosts X} {P : stage.Ghosts X} → Running X P F → Log → Ring M → State F P M
+cabinet r l g = record { run = r; log = lists l; held = holds g; slots = slots_of g }
 
 -- a run at power-on
-abbrev pub started : {X : Type 0} → X → Running X
+abbrev pub started : {X : Type 0} {F : flow.Ghosts X} {P : stage.Ghosts X} → X → Running X P F
 started x = record { network = x; ticks = 0; arrived = 0; passed = 0; greatest = 0; few = omega arith; least = omega arith }
 
 module _ {X : Type 0} (F : flow.Ghosts X) (P : stage.Ghosts X) where
   -- what a run has come to
-  abbrev pub totals : Running X → Sums
+  abbrev pub totals : Running X P F → Sums
   totals r = record { ticks = r.ticks; arrived = r.arrived; passed = r.passed; waiting = (P.top r.network).waits 0; greatest = r.greatest }
 
   -- why a tick is refused
-  abbrev pub refusal_of_tick : Running X → Lists → Option Refusal
+  abbrev pub refusal_of_tick : Running X P F → Lists → Option Refusal
   refusal_of_tick r l = cond (nat_lt r.ticks (places l)) None (Some LogFull)
 
   -- a tick that was taken
-  pub record Went (r : Running X) (l : Lists) (s : Running X) (m : Lists) (c : Counts) : Type 0 where
+  pub record Went (r : Running X P F) (l : Lists) (s : Running X P F) (m : Lists) (c : Counts) : Type 0 where
     pub room : r.ticks < places l
     pub arrived : c.arrived ≡ (P.top r.network).arrived 0
     pub passed : c.passed ≡ (P.top r.network).passed 0
@@ -96,17 +96,17 @@ module _ {X : Type 0} (F : flow.Ghosts X) (P : stage.Ghosts X) where
     pub sound : F.sound s.network
 
   -- a call that was refused changed nothing
-  pub record Stayed (r : Running X) (l : Lists) (s : Running X) (m : Lists) : Type 0 where
+  pub record Stayed (r : Running X P F) (l : Lists) (s : Running X P F) (m : Lists) : Type 0 where
     pub run : s ≡ r
     pub log : m ≡ l
 
-  abbrev pub Ticked : Running X → Lists → Running X → Lists → Result Counts Refusal → Type 0
+  abbrev pub Ticked : Running X P F → Lists → Running X P F → Lists → Result Counts Refusal → Type 0
   Ticked r l s m (Ok c) = (refusal_of_tick r l ≡ None) × Went r l s m c
   Ticked r l s m (Err e) = (refusal_of_tick r l ≡ Some e) × Stayed r l s m
 
   module _ {M : Type 0} where
     -- why a carry is refused: the log is used up, a list is too short, the ring has too few slots, or it holds another number than waits
-    abbrev pub refusal_of_carry : State X M → List M → List M → Option Refusal
+    abbrev pub refusal_of_carry : State F P M → List M → List M → Option Refusal
     refusal_of_carry s ins outs =
         cond (nat_lt s.run.ticks (places s.log))
         (cond (nat_lt (length ins) (P.top s.run.network).arriving || nat_lt (length outs) (at (P.top s.run.network).bounds.pair.most 1)) (Some ListShort)
@@ -115,7 +115,7 @@ module _ {X : Type 0} (F : flow.Ghosts X) (P : stage.Ghosts X) where
         (Some LogFull)
 
     -- a carry that was taken: what the ring held and then the first of the in_list came out first, and the remainder is in the ring; the other places of the out-list are as they were
-    pub record Moved (s t : State X M) (ins outs after : List M) (c : Counts) : Type 0 where
+    pub record Moved (s t : State F P M) (ins outs after : List M) (c : Counts) : Type 0 where
       pub went : Went s.run s.log t.run t.log c
       pub in_list : c.arrived ≤ length ins
       pub out_list : c.passed ≤ length outs
@@ -124,11 +124,11 @@ module _ {X : Type 0} (F : flow.Ghosts X) (P : stage.Ghosts X) where
       pub slots : t.slots ≡ s.slots
 
     -- one that was refused
-    pub record Unmoved (s t : State X M) (outs after : List M) : Type 0 where
+    pub record Unmoved (s t : State F P M) (outs after : List M) : Type 0 where
       pub state : t ≡ s
       pub out_list : after ≡ outs
 
-    abbrev pub Carried : State X M → State X M → List M → List M → List M → Result Counts Refusal → Type 0
+    abbrev pub Carried : State F P M → State F P M → List M → List M → List M → Result Counts Refusal → Type 0
     Carried s t ins outs after (Ok c) = (refusal_of_carry s ins outs ≡ None) × Moved s t ins outs after c
     Carried s t ins outs after (Err e) = (refusal_of_carry s ins outs ≡ Some e) × Unmoved s t outs after
 
@@ -142,15 +142,15 @@ module _ {X : Type 0} (F : flow.Ghosts X) (P : stage.Ghosts X) where
     given (Err e) after = []
 
     -- the runs from a state: ticks and carries, refused or not, one after the other, with all that went in and all that came out
-    pub data Runs (s : State X M) : List M → List M → State X M → Type 0 where
+    pub data Runs (s : State F P M) : List M → List M → State F P M → Type 0 where
       none : Runs s [] [] s
-      tick : {i o : List M} {t : State X M} (r : Running X) (l : Lists) (a : Result Counts Refusal) → Runs s i o t → Ticked t.run t.log r l a
+      tick : {i o : List M} {t : State F P M} (r : Running X P F) (l : Lists) (a : Result Counts Refusal) → Runs s i o t → Ticked t.run t.log r l a
           → Runs s i o (record { run = r; log = l; held = t.held; slots = t.slots })
-      carry : {i o : List M} {t : State X M} (u : State X M) (ins outs after : List M) (a : Result Counts Refusal) → Runs s i o t → Carried t u ins outs after a
+      carry : {i o : List M} {t : State F P M} (u : State F P M) (ins outs after : List M) (a : Result Counts Refusal) → Runs s i o t → Carried t u ins outs after a
           → Runs s (i ++ taken a ins) (o ++ given a after) u
 
     -- at the end of a run that went from s to t: in the ticks taken each stage kept its bounds; what came out and then the ring is what went in, in order; and the log and the sums are what happened at the top stage
-    pub record Kept (s : State X M) (i o : List M) (t : State X M) : Type 0 where
+    pub record Kept (s : State F P M) (i o : List M) (t : State F P M) : Type 0 where
       pub stages : All (KeptTo t.run.ticks) (F.views s.run.network)
       pub views : F.views t.run.network ≡ map (on t.run.ticks) (F.views s.run.network)
       pub top : P.top t.run.network ≡ on t.run.ticks (P.top s.run.network)
@@ -165,5 +165,5 @@ module _ {X : Type 0} (F : flow.Ghosts X) (P : stage.Ghosts X) where
       pub sound : F.sound t.run.network
 
     -- over every run from power-on, with every log and every number of slots
-    abbrev pub EveryRun : Running X → List M → Type 0
-    EveryRun r held = (l : Lists) (n : ℕ) (i o : List M) (t : State X M) → Runs (record { run = r; log = l; held = held; slots = n }) i o t → Kept (record { run = r; log = l; held = held; slots = n }) i o t
+    abbrev pub EveryRun : Running X P F → List M → Type 0
+    EveryRun r held = (l : Lists) (n : ℕ) (i o : List M) (t : State F P M) → Runs (record { run = r; log = l; held = held; slots = n }) i o t → Kept (record { run = r; log = l; held = held; slots = n }) i o t

@@ -17,7 +17,7 @@ impl<P: Stage + Drop> Running<P> {
         input: &[M],
         out: &[M],
     ) -> Option<Refusal>
-        ensures { result ≡ refusal_of_carry P.Flow P.Stage (record { run = self.now; log = lists log.now; held = holds ring.now; slots = room ring.now }) input.now out.now }
+        ensures { result ≡ refusal_of_carry P.Flow P.Stage.own (record { run = self.now; log = lists log.now; held = holds ring.now; slots = room ring.now }) input.now out.now }
     {
         if !self.has_place(log) {
             return Some(Refusal::Log);
@@ -48,7 +48,7 @@ impl<P: Stage + Drop> Running<P> {
         out: &mut [M],
     ) -> Result<Counts, Refusal>
         requires { P.Flow.sound self.old.network }
-        ensures carried { Carried P.Flow P.Stage (record { run = self.old; log = lists log.old; held = holds ring.old; slots = room ring.old }) (record { run = self.new; log = lists log.new; held = holds ring.new; slots = room ring.new }) input.now out.old out.new result }
+        ensures carried { Carried P.Flow P.Stage.own (record { run = self.old; log = lists log.old; held = holds ring.old; slots = room ring.old }) (record { run = self.new; log = lists log.new; held = holds ring.new; slots = room ring.new }) input.now out.old out.new result }
         ensures sound { P.Flow.sound self.new.network }
     {
         if let Some(refusal) = self.carry_refusal(log, ring, input, out) {

@@ -7,7 +7,7 @@ use stages::Stage;
 impl<P: Stage + Drop> Running<P> {
     /// What happened so far.
     pub fn sums(&self) -> Sums
-        ensures { result ≡ totals P.Flow P.Stage self.now }
+        ensures { result ≡ totals P.Flow P.Stage.own self.now }
     {
         Sums {
             ticks: self.ticks,
@@ -20,7 +20,7 @@ impl<P: Stage + Drop> Running<P> {
 
     /// Ends the run: it ticks no more.
     pub fn report(self) -> Ended<P>
-        ensures sums { result.sums ≡ totals P.Flow P.Stage self }
+        ensures sums { result.sums ≡ totals P.Flow P.Stage.own self }
         ensures network { result.network ≡ self.network }
     {
         let sums = self.sums();

@@ -37,7 +37,7 @@ impl<P: Stage + Drop> Fitted<P> {
         ensures network { result.network ≡ self.network }
         ensures sums { (result.ticks ≡ 0) × (result.arrived ≡ 0) × (result.passed ≡ 0) × (result.greatest ≡ 0) }
         ensures sound { P.Flow.sound result.network }
-        ensures runs { holds ring.now ≡ [] → EveryRun P.Flow P.Stage result (holds ring.now) }
+        ensures runs { holds ring.now ≡ [] → EveryRun P.Flow P.Stage.own result (holds ring.now) }
     {
         let Fitted { network } = self;
         Running {

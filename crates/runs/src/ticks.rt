@@ -26,7 +26,7 @@ impl<P: Stage + Drop> Running<P> {
     pub(crate) fn take_tick(&mut self, log: &mut Log) -> Counts
         requires sound { P.Flow.sound self.old.network }
         requires room { self.old.ticks < places (lists log.old) }
-        ensures went { Went P.Flow P.Stage self.old (lists log.old) self.new (lists log.new) result }
+        ensures went { Went P.Flow P.Stage.own self.old (lists log.old) self.new (lists log.new) result }
         ensures sound { P.Flow.sound self.new.network }
     {
         let at = self.ticks as usize;
@@ -44,7 +44,7 @@ impl<P: Stage + Drop> Running<P> {
     /// One tick, written to the next place of the log: `Log` where the shortest list is used up.
     pub fn tick(&mut self, log: &mut Log) -> Result<Counts, Refusal>
         requires { P.Flow.sound self.old.network }
-        ensures ticked { Ticked P.Flow P.Stage self.old (lists log.old) self.new (lists log.new) result }
+        ensures ticked { Ticked P.Flow P.Stage.own self.old (lists log.old) self.new (lists log.new) result }
         ensures sound { P.Flow.sound self.new.network }
     {
         if !self.has_place(log) {

@@ -1,4 +1,4 @@
-use Rattle.std.proofs.Common.{◌≡◌, List, ◌∷◌, subst}
+use Rattle.std.proofs.Common.{◌≡◌, List, ◌∷◌, refl, subst}
 use Rattle.flows.specs.Views.{View, Idle, All}
 use Rattle.runs.specs.Held.{holds}
 use Rattle.runs.proofs.Every.{at_start, every}
@@ -10,7 +10,9 @@ returns g c =
     let x = c.args.self.network in
     let idle = (subst (All Idle) (g.met.P.Stage.first x) c.requires.fresh).0 in
     record {
-      value = at_start x _ _;
+      value = at_start F g.P.Stage x _ _;
+      network = refl;
+      sums = (refl, refl, refl, refl);
       sound = c.requires.sound;
-      runs = every F g.P.Stage x (holds c.args.ring.now) idle c.requires.sound (F.viewed x c.requires.sound) c.requires.fresh;
+      runs = every F g.P.Stage _ (holds c.args.ring.now) refl refl refl refl idle c.requires.sound (F.viewed x c.requires.sound) c.requires.fresh;
     }

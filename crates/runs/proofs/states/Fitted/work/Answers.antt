@@ -1,7 +1,7 @@
 use Rattle.std.proofs.Common.{◌≡◌, sym, refl, subst}
 use Rattle.flows.specs.Views.{Idle, All}
 use Rattle.runs.specs.Held.{holds, room}
-use Rattle.runs.specs.Runs.{lists}
+use Rattle.runs.specs.Runs.{lists, EveryRun}
 use Rattle.runs.specs.Calls.{desk, nothing, Through}
 use Rattle.runs.proofs.Listed.{listed, as_long}
 use Rattle.runs.proofs.states.Fitted.work.Goals as goal
@@ -16,7 +16,7 @@ returns g c =
     let long = as_long F P c.args.input.now _ through in
     record {
       through = through;
-      kept = λ empty. c.start-running.ensures.runs empty (lists c.args.log.now) (room c.args.ring.now) _ _ _ done.run;
+      kept = λ empty. subst (λ r. EveryRun F P r (holds c.args.ring.now)) c.start-running.ensures.value (c.start-running.ensures.runs empty) (lists c.args.log.now) (room c.args.ring.now) _ _ _ done.run;
       sound = c.work-done.ensures.sound;
       taken = done.taken;
       given = done.given;

@@ -13,7 +13,7 @@ returns-in-Ok-carry g c =
       called = carry_done g.P.Flow g.P.Stage ins outs c.carry.new.out _ _ _ _ _ _ _ d (Ok c.in-Ok-carry.counts) c.in-Carry.is c.requires.taken c.requires.given c.min.ensures c.min-in-Carry.ensures same w;
       sound = c.carry.ensures.sound;
       few = omega arith;
-      taken = part_few ins d.taken _ _ c.requires.taken w.1.in_List;
+      taken = part_few ins d.taken _ _ c.requires.taken w.1.in_list;
       given = part_few outs d.given _ _ c.requires.given w.1.out_list;
     }
 
