@@ -8,7 +8,7 @@ use Rattle.flows.specs.declared.flow.Flow as flow
 use Rattle.stages.specs.declared.stage.Stage as stage
 use Rattle.runs.specs.Runs.{State, KeptTo, Kept}
 
-module _ {X M : Type 0} (F : flow.Ghosts X) (P : stage.Ghosts X) (first : (x : X) → F.views x ≡ P.top x ∷ P.below x) (s t : State X M) (i o : List M) (kept : Kept F P s i o t) where
+module _ {X M : Type 0} (F : flow.Ghosts X) (P : stage.Ghosts X) (first : (x : X) → F.views x ≡ P.top x ∷ P.below x) (s t : State F P M) (i o : List M) (kept : Kept F P s i o t) where
   -- what waited at the top stage is within its wait
   pub waited : t.run.greatest ≤ (P.top s.run.network).bounds.wait
   waited =
