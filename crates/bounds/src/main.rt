@@ -8,6 +8,7 @@ use anyhow::anyhow;
 use book::answer_of;
 use std::io;
 use std::io::Read;
+use std::process::ExitCode;
 
 #[cfg(test)]
 mod tests;
@@ -49,6 +50,10 @@ fn run(rt: &HostRuntime) -> anyhow::Result<()> {
     print_answer(rt, &buffer[0..length])
 }
 
-fn main(rt: HostRuntime) -> anyhow::Result<()> {
-    run(&rt)
+// Ends with status 0 or 1, and writes nothing to standard error.
+fn main(rt: HostRuntime) -> ExitCode {
+    match run(&rt) {
+        Ok(()) => ExitCode::SUCCESS,
+        Err(_) => ExitCode::FAILURE,
+    }
 }

@@ -1,6 +1,6 @@
 -- What the calls of a running network do, and what holds over every run.
 use Rattle.std.specs.Prelude.{◌≡◌, ℕ, zero, suc, ◌+◌, ◌<◌, ◌≤◌, min, max, Bool, cond, not, ◌||◌, List, [], ◌∷◌, ◌++◌, map, length, take, drop, IfSome, Some, None, Ok, Err, Option, Result, ◌==◌, nat_lt, slice_index, slice_set}
-use Rattle.std.proofs.Common.{arith}
+use Rattle.std.proofs.Math.Dec.{lit≤}
 use Rattle.tables.specs.Courses.{sum}
 use Rattle.tables.specs.Ranges.{largest}
 use Rattle.tables.specs.Tables.{at}
@@ -67,7 +67,7 @@ cabinet r l g = record { run = r; log = lists l; held = holds g; slots = slots_o
 
 -- a run at power-on
 abbrev pub started : {X : Type 0} {F : flow.Ghosts X} {P : stage.Ghosts X} → X → Running X P F
-started x = record { network = x; ticks = 0; arrived = 0; passed = 0; greatest = 0; few = omega arith; least = omega arith }
+started x = record { network = x; ticks = 0; arrived = 0; passed = 0; greatest = 0; few = lit≤ tt; least = lit≤ tt }
 
 module _ {X : Type 0} (F : flow.Ghosts X) (P : stage.Ghosts X) where
   -- what a run has come to

@@ -1,7 +1,6 @@
-ghost use Rattle.std.specs.Prelude.{◌≡◌, ℕ};
+ghost use Rattle.std.specs.Prelude.{◌≡◌, ℕ, refl};
 ghost use Rattle.flows.specs.Views.{look};
 ghost use Rattle.stages.specs.Joins.{joining, join_figures, join_view, join_below, join_views, JoinSound, JoinTicked};
-ghost use Rattle.std.proofs.Common.{rules};
 
 use super::Join;
 use crate::stage::{Counts, Stage};
@@ -82,7 +81,7 @@ impl<A: Flow + Drop, B: Flow + Drop> Stage for Join<A, B> {
 
     ghost below = { join_below A.Flow B.Flow };
 
-    ghost first = { Prim.search rules };
+    ghost first = { λ _. refl };
 
     fn step(&mut self) -> Counts {
         let count = self.tick();

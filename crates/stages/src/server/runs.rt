@@ -1,5 +1,5 @@
+ghost use Rattle.std.specs.Prelude.{refl};
 ghost use Rattle.stages.specs.Servers.{passing, resting, server_view, server_views, server_below, ServerSound};
-ghost use Rattle.std.proofs.Common.{rules, arith};
 
 use super::Server;
 use crate::stage::{Counts, Stage};
@@ -37,7 +37,7 @@ impl<E: Flow + Drop, S: Flow + Drop> Stage for Server<E, S> {
 
     ghost below = { server_below E.Flow S.Flow };
 
-    ghost first = { first_of (Prim.search rules, Prim.grind (arith, Self.row.coded.inj)) };
+    ghost first = { λ _. refl };
 
     fn step(&mut self) -> Counts {
         let served = self.serve();
