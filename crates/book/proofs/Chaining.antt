@@ -1,14 +1,12 @@
 -- A block that is read, in a chain.
-use Rattle.std.proofs.Common.{◌≡◌, ℕ, suc, ◌+◌, ◌-◌, ◌*◌, ◌/◌, ◌%◌, ◌<◌, ◌≤◌, true, false, cond, ◌&&◌, eqb, leb, List, [], ◌∷◌, ◌++◌, length, take, drop, Ok, Err, Result, sym, ap, ◌∙◌, arith}
+use Rattle.std.proofs.Common.{◌≡◌, ℕ, suc, ◌/◌, ◌%◌, ◌≤◌, true, cond, ◌&&◌, eqb, leb, List, [], ◌∷◌, ◌++◌, length, take, drop, Ok, Err, Result, sym, ap, ◌∙◌}
 use Rattle.std.proofs.lemmas.Bool.{cond-true, cond-false, eq-eqb, ne_eqb, eqb-true, leb-true, and_parts}
 use Rattle.tables.specs.Tables.{Curves}
 use Rattle.tables.specs.declared.refusal.Refusal.{Refusal}
 use Rattle.tables.specs.declared.refusal.Refusal.TheVariants.{Kind, Frame}
-use Rattle.book.specs.Books.{Chained, Turned, whole, or_turned, chain_on}
+use Rattle.book.specs.Books.{whole, or_turned, chain_on}
 use Rattle.book.specs.Chains.{Staged, and_then, block_pair, joins, serves, shapes, stage_answer, next_answer, first_answer}
-use Rattle.book.specs.Reads.{Read, read_as, block_read, read_answer}
-use Rattle.book.specs.declared.block.Block.{Block}
-use Rattle.book.specs.declared.block.Entries.{Entries}
+use Rattle.book.specs.Reads.{Read, read_answer}
 
 module _ (p : Curves) (b : List ℕ) (r : Read) (is : Ok r ≡ read_answer b) where
   read_next : next_answer p b ≡ stage_answer p r

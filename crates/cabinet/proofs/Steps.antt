@@ -1,7 +1,7 @@
 -- One turn more of each loop.
-use Rattle.std.proofs.Common.{◌≡◌, ℕ, suc, ◌+◌, ◌<◌, ◌≤◌, max, Bool, true, false, cond, ◌≢◌, List, [], ◌∷◌, ◌++◌, length, get_or, drop, set, replicate, sym, refl, ap, ◌∙◌, subst, append_assoc, arith, length-set, get_or-set_other, get_or-set_same, below_more}
+use Rattle.std.proofs.Common.{◌≡◌, ℕ, suc, ◌+◌, ◌<◌, ◌≤◌, max, Bool, true, false, cond, ◌≢◌, List, ◌++◌, length, get_or, drop, set, replicate, sym, refl, ap, ◌∙◌, append_assoc, arith, get_or-set_other, get_or-set_same, below_more}
 use mir.Val.{bool_byte}
-use Rattle.std.proofs.lemmas.List.{drop_more, replicate_more}
+use Rattle.std.proofs.lemmas.List.{drop_more}
 use Rattle.cabinet.specs.Times.{ticks_from, longest_of, how_many}
 
 next_is : (n : ℕ) → n + 1 ≡ suc n

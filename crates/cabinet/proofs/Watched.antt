@@ -1,9 +1,9 @@
 -- What a run keeps, as a watcher sees it.
-use Rattle.std.proofs.Common.{◌≡◌, ℕ, ◌+◌, ◌≤◌, true, List, [], ◌∷◌, ◌++◌, length, take, is_err, IfOk, Ok, Err, Result, sym, ap, ◌∙◌, subst, arith, length-append}
+use Rattle.std.proofs.Common.{◌≡◌, ℕ, ◌≤◌, true, List, ◌∷◌, ◌++◌, length, take, is_err, IfOk, Ok, Err, Result, sym, ap, ◌∙◌, subst, arith, length-append}
 use Rattle.std.proofs.lemmas.List.{length-take-le, take_at, take-take}
 use Rattle.std.proofs.lemmas.Bool.{false≢true}
 use Rattle.tables.proofs.Ranges.{largest_le}
-use Rattle.flows.specs.Views.{View, All}
+use Rattle.flows.specs.Views.{All}
 use Rattle.flows.specs.declared.flow.Flow as flow
 use Rattle.stages.specs.declared.stage.Stage as stage
 use Rattle.runs.specs.Runs.{State, KeptTo, Kept}

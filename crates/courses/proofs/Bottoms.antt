@@ -1,7 +1,6 @@
 -- What the bottom flows keep.
 use Rattle.std.proofs.Common.{◌≡◌, ℕ, zero, suc, ◌+◌, ◌-◌, ◌*◌, ◌/◌, ◌≤◌, List, [], ◌∷◌, length, get_or, refl, ap, mul-le-mul_left, arith}
 use native.Mathlib.Decide.{dec_le, le_ind}
-use native.Mathlib.Nat.{add-mod_right}
 use Rattle.tables.specs.Curves.{Graph, repeated}
 use Rattle.tables.proofs.Curves.{rises_to}
 use Rattle.tables.proofs.Ranges.{largest_ge, smallest_le}

@@ -1,5 +1,5 @@
 -- What holds up to a frame, and goes on by frames.
-use Rattle.std.proofs.Common.{◌≡◌, ℕ, zero, suc, ◌+◌, ◌-◌, ◌<◌, ◌≤◌, true, leb, refl, ap, subst, arith}
+use Rattle.std.proofs.Common.{◌≡◌, ℕ, zero, suc, ◌+◌, ◌<◌, ◌≤◌, true, leb, refl, ap, arith}
 use Rattle.std.proofs.lemmas.Bool.{leb-true}
 use Rattle.tables.specs.Curves.{Graph, repeated, subadditive, subadditive_at}
 use Rattle.tables.proofs.Curves.{rises_far}

@@ -1,7 +1,6 @@
 -- Sums of courses, and the windows that they keep.
 use Rattle.std.proofs.Common.{◌≡◌, ℕ, zero, suc, ◌+◌, ◌<◌, ◌≤◌, refl, ap, arith}
-use native.Mathlib.Decide.{le_ind}
-use Rattle.tables.proofs.Sums.{sum_rises, sum_later}
+use Rattle.tables.proofs.Sums.{sum_later}
 use Rattle.courses.specs.Courses.{KeepsTo, Keeps, SameTo, plus, waiting}
 use Rattle.tables.specs.Courses.{later, sum}
 

@@ -1,5 +1,5 @@
 -- The windows that courses keep, and the rules of the stages.
-use Rattle.std.specs.Prelude.{◌≡◌, ℕ, zero, suc, ◌+◌, ◌-◌, ◌<◌, ◌≤◌, min}
+use Rattle.std.specs.Prelude.{◌≡◌, ℕ, ◌+◌, ◌-◌, ◌<◌, ◌≤◌, min}
 use Rattle.tables.specs.Ranges.{smallest}
 use Rattle.tables.specs.Courses.{sum}
 

@@ -1,10 +1,10 @@
 -- A stage one tick later keeps its bounds too.
-use Rattle.std.proofs.Common.{◌≡◌, ℕ, zero, suc, ◌+◌, ◌-◌, ◌≤◌, List, [], ◌∷◌, ◌++◌, map, IfSome, Some, None, Ok, Err, Option, sym, refl, ap, subst, arith}
+use Rattle.std.proofs.Common.{◌≡◌, ℕ, zero, suc, ◌+◌, ◌-◌, ◌≤◌, List, [], ◌∷◌, ◌++◌, map, IfSome, Some, None, Ok, Err, Option, ap, arith}
 use mathlib.Core.Path.{fun_ext}
 use Rattle.tables.specs.Courses.{sum, later}
 use Rattle.tables.specs.declared.pair.Pair.{Pair}
 use Rattle.flows.proofs.Kept.{keeps_tail}
-use Rattle.flows.specs.Views.{KeepsPair, tail, View, Fine, Idle, next_view, All, look}
+use Rattle.flows.specs.Views.{KeepsPair, tail, View, Fine, next_view, All, look}
 use Rattle.flows.specs.declared.bounds.StageBounds.{StageBounds}
 
 -- one tick on

@@ -1,6 +1,5 @@
 -- Every run from power-on keeps what is promised.
-use Rattle.std.proofs.Common.{◌≡◌, ℕ, zero, suc, ◌+◌, ◌*◌, ◌<◌, ◌≤◌, min, max, ◌≢◌, List, [], ◌∷◌, ◌++◌, map, length, get_or, take, set, IfSome, Some, None, Ok, Err, Option, Result, sym, refl, ap, ◌∙◌, subst, append_assoc, append-nil, arith, length-set, get_or-set_other, get_or-set_same, below_more}
-use mathlib.Core.Path.{fun_ext}
+use Rattle.std.proofs.Common.{◌≡◌, ℕ, zero, suc, ◌+◌, ◌*◌, ◌<◌, ◌≤◌, max, ◌≢◌, List, [], ◌∷◌, ◌++◌, map, length, get_or, take, set, IfSome, Some, None, Ok, Err, Option, Result, sym, refl, ap, ◌∙◌, subst, append_assoc, append-nil, arith, length-set, get_or-set_other, get_or-set_same, below_more}
 use native.Mathlib.Bridge.{le_prop}
 use Rattle.tables.specs.Courses.{sum}
 use Rattle.tables.specs.Ranges.{largest}
@@ -12,7 +11,7 @@ use Rattle.flows.specs.declared.flow.Flow as flow
 use Rattle.stages.specs.declared.stage.Counts.{Counts}
 use Rattle.stages.specs.declared.stage.Stage as stage
 use Rattle.runs.specs.declared.states.Running.{Running}
-use Rattle.runs.specs.Runs.{Lists, places, on, KeptTo, Written, State, started, Went, Ticked, Carried, taken, given, Runs, none, tick, carry, Kept, EveryRun}
+use Rattle.runs.specs.Runs.{Lists, on, KeptTo, Written, State, started, Went, Ticked, Carried, taken, given, Runs, none, tick, carry, Kept, EveryRun}
 
 -- a stage that keeps its bounds for ever, and in which nothing waits, keeps them in the first n ticks
 pub kept_to : (n : ℕ) (v : View) → Fine v → Idle v → KeptTo n v

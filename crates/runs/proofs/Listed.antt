@@ -1,5 +1,5 @@
 -- A list of calls that was worked through is a run.
-use Rattle.std.proofs.Common.{◌≡◌, ℕ, ◌+◌, ◌-◌, ◌≤◌, min, List, [], ◌∷◌, ◌++◌, length, take, drop, Ok, Err, Result, sym, refl, ap, ◌∙◌, subst, append-nil, arith, length-drop, length-set, length-take}
+use Rattle.std.proofs.Common.{◌≡◌, ℕ, ◌+◌, ◌-◌, ◌≤◌, min, List, [], ◌++◌, length, take, drop, Ok, Err, Result, sym, refl, ap, ◌∙◌, subst, append-nil, arith, length-drop, length-set, length-take}
 use mathlib.Core.Path.{transport}
 use Rattle.std.proofs.lemmas.List.{take-take}
 use Rattle.tables.specs.declared.refusal.Refusal.{Refusal}
@@ -12,7 +12,7 @@ use Rattle.runs.specs.declared.calls.Done.{Done}
 use Rattle.runs.specs.Runs as runs
 use Rattle.runs.specs.declared.states.Running.{Running}
 use Rattle.runs.specs.Runs.{Lists, State, Went, Ticked, Carried, Runs}
-use Rattle.runs.specs.Calls.{Desk, part, past_tick, past_carry, TickDone, CarryDone, Called, Through, none, next}
+use Rattle.runs.specs.Calls.{Desk, part, past_tick, past_carry, TickDone, Through, none, next}
 use Rattle.runs.proofs.Pieces.{part_few}
 use Rattle.runs.proofs.Rounds.{two_parts}
 

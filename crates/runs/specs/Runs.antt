@@ -1,5 +1,5 @@
 -- What the calls of a running network do, and what holds over every run.
-use Rattle.std.specs.Prelude.{◌≡◌, ℕ, zero, suc, ◌+◌, ◌<◌, ◌≤◌, min, max, Bool, cond, not, ◌||◌, List, [], ◌∷◌, ◌++◌, map, length, take, drop, IfSome, Some, None, Ok, Err, Option, Result, ◌==◌, nat_lt, slice_index, slice_set}
+use Rattle.std.specs.Prelude.{◌≡◌, ℕ, ◌+◌, ◌<◌, ◌≤◌, min, max, cond, ◌||◌, List, [], ◌++◌, map, length, take, drop, IfSome, Some, None, Ok, Err, Option, Result, ◌==◌, nat_lt, slice_index, slice_set}
 use Rattle.std.proofs.Math.Dec.{lit≤}
 use Rattle.tables.specs.Courses.{sum}
 use Rattle.tables.specs.Ranges.{largest}
@@ -114,7 +114,7 @@ module _ {X : Type 0} (F : flow.Ghosts X) (P : stage.Ghosts X) where
         (cond (length s.held == (P.top s.run.network).waits 0) None (Some StepMissed))))
         (Some LogFull)
 
-    -- a carry that was taken: what the ring held and then the first of the in_list came out first, and the remainder is in the ring; the other places of the out-list are as they were
+    -- a carry that was taken: what the ring held and then the first of the in-list came out first, and the remainder is in the ring; the other places of the out-list are as they were
     pub record Moved (s t : State F P M) (ins outs after : List M) (c : Counts) : Type 0 where
       pub went : Went s.run s.log t.run t.log c
       pub in_list : c.arrived ≤ length ins

@@ -1,12 +1,9 @@
 -- A server whose bounds are those of the tables keeps them from power-on on.
-use Rattle.std.proofs.Common.{◌≡◌, ℕ, zero, suc, ◌+◌, ◌-◌, ◌≤◌, Bool, true, false, cond, eqb, Some, None, Ok, Err, Option, Result, sym, refl, ap, ◌∙◌, subst, inl, inr, arith}
-use Rattle.std.proofs.lemmas.Bool.{cases_Bool}
+use Rattle.std.proofs.Common.{◌≡◌, ℕ, ◌+◌, Bool, true, false, cond, eqb, Some, None, Ok, Err, Option, sym, ap, ◌∙◌, subst, arith}
 use Rattle.tables.specs.Bounds.{Serving, serving, settled, if_settled, server_answer}
-use Rattle.tables.specs.Courses.{sum}
 use Rattle.tables.specs.Curves.{Settles, Shortest, settling_length}
 use Rattle.tables.specs.Tables.{Curves, at, curves}
 use Rattle.tables.specs.declared.bounds.ServerBounds.{ServerBounds}
-use Rattle.tables.specs.declared.refusal.Refusal.{Refusal}
 use Rattle.tables.specs.declared.refusal.Refusal.TheVariants.{Frame}
 use Rattle.courses.specs.Claims.{Bounds}
 use Rattle.courses.specs.Courses.{Keeps, rest}
@@ -14,7 +11,7 @@ use Rattle.courses.specs.Steps.{server_after, served}
 use Rattle.courses.proofs.Frames.{keeps_repeated}
 use Rattle.courses.proofs.Serving.{server_bounds, server_passed, server_rest}
 use Rattle.courses.proofs.Steps.{serves, served_sum}
-use Rattle.flows.specs.Views.{Fine, KeepsPair}
+use Rattle.flows.specs.Views.{Fine}
 use Rattle.flows.specs.declared.flow.Flow.{Ghosts}
 use Rattle.stages.specs.Servers.{server_figures, fits}
 use Rattle.stages.proofs.Opens.{first_few}

@@ -1,5 +1,5 @@
 -- What a tick of a join does, and that it keeps its bounds.
-use Rattle.std.proofs.Common.{◌≡◌, ℕ, zero, suc, ◌+◌, ◌≤◌, Bool, true, false, cond, eqb, leb, List, [], ◌∷◌, ◌++◌, map, Ok, Err, sym, refl, ap, ◌∙◌, subst, arith}
+use Rattle.std.proofs.Common.{◌≡◌, ℕ, ◌+◌, Bool, true, false, cond, eqb, leb, ◌∷◌, ◌++◌, map, Ok, Err, sym, refl, ap, ◌∙◌, subst, arith}
 use Rattle.std.proofs.lemmas.List.{map-append}
 use Rattle.tables.specs.Bounds.{joined_pair, join_answer}
 use Rattle.tables.specs.Courses.{sum}
@@ -10,7 +10,7 @@ use Rattle.tables.specs.declared.refusal.Refusal.TheVariants.{Frame, Crowd}
 use Rattle.courses.specs.Courses.{plus}
 use Rattle.courses.proofs.Frames.{keeps_repeated}
 use Rattle.courses.proofs.Sums.{keeps_plus}
-use Rattle.flows.specs.Views.{View, Fine, All, KeepsPair, tail, next_view}
+use Rattle.flows.specs.Views.{Fine, All, KeepsPair, tail, next_view}
 use Rattle.flows.specs.declared.flow.Flow.{Ghosts}
 use Rattle.flows.proofs.Views.{all_next}
 use Rattle.stages.specs.Opens.{open_course, open_count, open_views}

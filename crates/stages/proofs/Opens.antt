@@ -1,5 +1,5 @@
 -- What is open or closed, one tick later.
-use Rattle.std.proofs.Common.{◌≡◌, ℕ, zero, suc, ◌+◌, ◌-◌, ◌*◌, ◌/◌, ◌≤◌, Bool, true, false, List, [], ◌∷◌, ◌++◌, map, IfSome, sym, refl, ap, ◌∙◌, subst, mul-zero, arith}
+use Rattle.std.proofs.Common.{◌≡◌, ℕ, zero, suc, ◌+◌, ◌-◌, ◌/◌, ◌≤◌, Bool, true, false, List, ◌∷◌, map, IfSome, sym, refl, ap, ◌∙◌, subst, mul-zero, arith}
 use Rattle.std.proofs.lemmas.Bool.{true≢false}
 use Rattle.tables.specs.Courses.{sum}
 use Rattle.tables.specs.Curves.{repeated}
@@ -7,7 +7,7 @@ use Rattle.tables.specs.Limits.{limit}
 use Rattle.tables.specs.Tables.{Curves, at, curves, paired}
 use Rattle.tables.proofs.Tables.{at_le}
 use Rattle.tables.specs.declared.pair.Pair.{Pair}
-use Rattle.flows.specs.Views.{View, Fine, Idle, All, KeepsPair, tail, next_view, look}
+use Rattle.flows.specs.Views.{View, Fine, All, KeepsPair, tail, next_view, look}
 use Rattle.flows.specs.declared.bounds.StageBounds.{StageBounds}
 use Rattle.flows.specs.declared.flow.Flow.{Ghosts}
 use Rattle.flows.proofs.Views.{look_past}

@@ -1,13 +1,11 @@
 -- What a tick of a server does, from what the two draws below it do.
-use Rattle.std.proofs.Common.{◌≡◌, ℕ, zero, suc, ◌+◌, ◌-◌, ◌≤◌, min, Bool, true, false, List, [], ◌∷◌, ◌++◌, map, sym, refl, ap, ◌∙◌, subst, arith}
-use mathlib.Core.Path.{fun_ext}
+use Rattle.std.proofs.Common.{◌≡◌, ℕ, ◌+◌, ◌-◌, ◌≤◌, min, true, ◌∷◌, ◌++◌, map, sym, refl, ap, ◌∙◌, subst, arith}
 use Rattle.std.proofs.lemmas.List.{map-append}
 use Rattle.tables.specs.Tables.{at}
-use Rattle.tables.specs.declared.pair.Pair.{Pair}
 use Rattle.courses.specs.Courses.{rest}
 use Rattle.courses.specs.Steps.{server_next, server_after, served}
 use Rattle.courses.proofs.Steps.{served_later, server_after_later}
-use Rattle.flows.specs.Views.{View, Fine, Idle, All, tail, next_view}
+use Rattle.flows.specs.Views.{Fine, All, tail, next_view}
 use Rattle.flows.specs.declared.flow.Flow.{Ghosts}
 use Rattle.flows.proofs.Views.{later_tail, all_next}
 use Rattle.stages.specs.Opens.{open_course, open_count, open_views}

@@ -1,12 +1,9 @@
 -- What a tick of a shaper does, and that a shaper whose bounds are those of the tables keeps them.
-use Rattle.std.proofs.Common.{◌≡◌, ℕ, zero, suc, ◌+◌, ◌-◌, ◌≤◌, min, Bool, true, false, cond, eqb, leb, List, [], ◌∷◌, map, take, Ok, Err, sum as total, sym, refl, ap, ◌∙◌, subst, arith}
-use mathlib.Core.Path.{fun_ext}
+use Rattle.std.proofs.Common.{◌≡◌, ℕ, ◌+◌, ◌-◌, ◌≤◌, min, Bool, true, false, cond, eqb, leb, ◌∷◌, map, take, Ok, Err, sum as total, sym, refl, ap, ◌∙◌, subst, arith}
 use Rattle.std.proofs.lemmas.Bool.{leb-true, eqb-true}
 use Rattle.tables.specs.Bounds as bounds
 use Rattle.tables.specs.Bounds.{shaping, shaped_pair, shaper_answer}
-use Rattle.tables.specs.Courses.{sum}
 use Rattle.tables.specs.Curves.{Graph, Shortest, convolved, excess, growth, repeated, subadditive}
-use Rattle.tables.specs.Limits.{limit}
 use Rattle.tables.specs.Ranges.{smallest}
 use Rattle.tables.specs.Tables.{Curve, Curves, at, curve, curves, entry}
 use Rattle.tables.specs.declared.bounds.ShaperBounds.{ShaperBounds}
@@ -14,12 +11,11 @@ use Rattle.tables.specs.declared.refusal.Refusal.TheVariants.{Frame, Shape, Over
 use Rattle.tables.specs.declared.table.Table.{Table}
 use Rattle.tables.proofs.Tables.{at_le, at_rises, at_within, at_zero, repeated_same}
 use Rattle.courses.specs.Claims.{Bounds}
-use Rattle.courses.specs.Courses.{Keeps}
 use Rattle.courses.specs.Steps.{Shaping, empty, shape, shaper_next, shaper_after, shaped}
 use Rattle.courses.proofs.Frames.{keeps_repeated}
 use Rattle.courses.proofs.Shaping.{shaper_bounds, shaper_passed}
 use Rattle.courses.proofs.Steps.{shapes, shaped_sum, shaped_later, shaper_after_later}
-use Rattle.flows.specs.Views.{View, Fine, All, KeepsPair, tail, next_view}
+use Rattle.flows.specs.Views.{Fine, All, tail, next_view}
 use Rattle.flows.specs.declared.flow.Flow.{Ghosts}
 use Rattle.flows.proofs.Views.{later_tail, all_next}
 use Rattle.stages.specs.Opens.{open_course, open_count, open_views}

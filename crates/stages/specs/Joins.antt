@@ -1,12 +1,12 @@
 -- A join of two flows.
-use Rattle.std.specs.Prelude.{◌≡◌, ℕ, Bool, true, false, List, ◌∷◌, ◌++◌, map, is_ok, None, Ok, Err, Result}
+use Rattle.std.specs.Prelude.{◌≡◌, ℕ, List, ◌∷◌, ◌++◌, map, is_ok, None, Ok, Err, Result}
 use Rattle.tables.specs.Bounds.{join_answer}
 use Rattle.tables.specs.Tables.{Curves, at, curves, paired}
 use Rattle.tables.specs.declared.bounds.StageKind.TheVariants.{Join as JoinKind}
 use Rattle.tables.specs.declared.pair.Pair.{Pair}
 use Rattle.tables.specs.declared.refusal.Refusal.{Refusal}
 use Rattle.courses.specs.Courses.{plus}
-use Rattle.flows.specs.Views.{View, Fine, Idle, All, tail, next_view}
+use Rattle.flows.specs.Views.{View, Fine, All, tail, next_view}
 use Rattle.flows.specs.declared.bounds.StageBounds.{StageBounds}
 use Rattle.flows.specs.declared.flow.Flow.{Ghosts}
 use Rattle.stages.specs.Opens.{open_course, open_count, open_views}

@@ -1,13 +1,13 @@
 -- A server over two flows, of which only the promises are known.
-use Rattle.std.specs.Prelude.{◌≡◌, ℕ, Bool, true, false, List, ◌∷◌, ◌++◌, map, is_ok, Some, Ok, Err, Result}
+use Rattle.std.specs.Prelude.{◌≡◌, ℕ, List, ◌∷◌, ◌++◌, map, is_ok, Some, Ok, Err, Result}
 use Rattle.tables.specs.Bounds.{Serving, serving, server_answer}
-use Rattle.tables.specs.Tables.{Curves, at, curves, paired}
+use Rattle.tables.specs.Tables.{at, curves, paired}
 use Rattle.tables.specs.declared.bounds.ServerBounds.{ServerBounds}
 use Rattle.tables.specs.declared.bounds.StageKind.TheVariants.{Server as ServerKind}
 use Rattle.tables.specs.declared.refusal.Refusal.{Refusal}
 use Rattle.courses.specs.Courses.{rest}
 use Rattle.courses.specs.Steps.{server_after, served}
-use Rattle.flows.specs.Views.{View, Fine, Idle, All, tail, next_view}
+use Rattle.flows.specs.Views.{View, Fine, All, tail, next_view}
 use Rattle.flows.specs.declared.bounds.StageBounds.{StageBounds}
 use Rattle.flows.specs.declared.flow.Flow.{Ghosts}
 use Rattle.stages.specs.Opens.{open_course, open_count, open_views}

@@ -1,5 +1,5 @@
 -- A shaper over a flow, of which only the promises are known.
-use Rattle.std.specs.Prelude.{◌≡◌, ℕ, Bool, true, false, List, ◌∷◌, map, replicate, is_ok, None, Ok, Err, Result}
+use Rattle.std.specs.Prelude.{◌≡◌, ℕ, List, ◌∷◌, map, is_ok, None, Ok, Err, Result}
 use Rattle.tables.specs.Bounds as bounds
 use Rattle.tables.specs.Bounds.{shaping, shaper_answer}
 use Rattle.tables.specs.Tables.{at, curve, curves, paired}
@@ -8,7 +8,7 @@ use Rattle.tables.specs.declared.bounds.StageKind.TheVariants.{Shaper as ShaperK
 use Rattle.tables.specs.declared.refusal.Refusal.{Refusal}
 use Rattle.tables.specs.declared.table.Table.{Table}
 use Rattle.courses.specs.Steps.{Shaping, empty, shaper_after, shaped}
-use Rattle.flows.specs.Views.{View, Fine, Idle, All, tail, next_view}
+use Rattle.flows.specs.Views.{View, Fine, All, tail, next_view}
 use Rattle.flows.specs.declared.bounds.StageBounds.{StageBounds}
 use Rattle.flows.specs.declared.flow.Flow.{Ghosts}
 use Rattle.stages.specs.Opens.{open_course, open_count, open_views}

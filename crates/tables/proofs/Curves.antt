@@ -1,9 +1,9 @@
 -- Curves that rise, and what the arithmetic of curves keeps.
 use Rattle.std.proofs.Common.{◌≡◌, ℕ, zero, suc, ◌+◌, ◌-◌, ◌<◌, ◌≤◌, Bool, true, false, ◌&&◌, leb, is_some, Some, None, Option, unwrap_or, refl, ap, ⊎_elim, le_of_suc-le-suc, eq-or-lt_of_le, add-one, arith}
-use Rattle.tables.specs.Ranges.{largest, smallest, first}
+use Rattle.tables.specs.Ranges.{first}
 use Rattle.std.proofs.lemmas.Bool.{leb-true, le-leb, and_parts, false≢true}
 use Rattle.tables.specs.Limits.{longest, limit}
-use Rattle.tables.specs.Curves.{Graph, Settles, Shortest, convolved, excess, settling_length, covers, shortest_delay, deconvolved, most_passed, growth, lawful, nowhere_above}
+use Rattle.tables.specs.Curves.{Graph, Settles, Shortest, convolved, excess, settling_length, covers, shortest_delay, deconvolved, growth, lawful}
 use Rattle.tables.proofs.Ranges.{largest_ge, largest_le, largest_same, smallest_le, smallest_ge, smallest_same, first_some, first_least, first_sound, every_true, every_each}
 
 -- up to n, no value smaller than the one before it

@@ -1,12 +1,12 @@
 -- Pairs by what their tables show, and that what is computed of pairs is a pair.
-use Rattle.std.proofs.Common.{◌≡◌, ℕ, zero, suc, ◌+◌, ◌-◌, ◌<◌, ◌≤◌, min, true, leb, sym, ap, ◌∙◌, arith}
+use Rattle.std.proofs.Common.{◌≡◌, ℕ, zero, suc, ◌+◌, ◌-◌, ◌<◌, ◌≤◌, min, true, leb, ap, arith}
 use Rattle.std.proofs.lemmas.Bool.{leb-true}
 use Rattle.tables.specs.Curves.{Graph, convolved, deconvolved, excess, growth, most_passed, nowhere_above}
 use Rattle.tables.specs.Limits.{longest, limit}
 use Rattle.tables.specs.Tables.{entry, at, Shows, Curves, paired}
 use Rattle.tables.specs.declared.table.Table.{Table}
 use Rattle.tables.specs.declared.pair.Pair.{Pair}
-use Rattle.tables.proofs.Curves.{convolved_le, convolved_rises, convolved_under, deconvolved_ge, deconvolved_rises, deconvolved_same, excess_le, excess_rises, excess_under, growth_le, growth_rises, growth_starts}
+use Rattle.tables.proofs.Curves.{convolved_le, convolved_rises, convolved_under, deconvolved_ge, deconvolved_rises, deconvolved_same, excess_le, excess_rises, growth_le, growth_rises, growth_starts}
 use Rattle.tables.proofs.Ranges.{every_each, largest_le}
 use Rattle.tables.proofs.Tables.{at_le, at_later, at_rises, at_within, at_zero, shows_all}
 

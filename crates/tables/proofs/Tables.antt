@@ -3,11 +3,11 @@ use Rattle.std.proofs.Common.{◌≡◌, ℕ, zero, suc, ◌+◌, ◌-◌, ◌*�
 use mathlib.Core.Path.{fun_ext}
 use Rattle.std.proofs.lemmas.Nat.{div-mul-add, mod-mul-add}
 use Rattle.std.proofs.lemmas.Bool.{cases_lt}
-use Rattle.tables.specs.Curves.{Graph, repeated, convolved, excess}
-use Rattle.tables.specs.Limits.{longest, limit}
+use Rattle.tables.specs.Curves.{Graph, repeated}
+use Rattle.tables.specs.Limits.{limit}
 use Rattle.tables.specs.Tables.{entry, at, Shows, curve, tabled}
 use Rattle.tables.specs.declared.table.Table.{Table}
-use Rattle.tables.proofs.Curves.{Rises, graph_le, convolved_rises, convolved_le, excess_rises, excess_le}
+use Rattle.tables.proofs.Curves.{Rises, graph_le}
 
 module _ (n : ℕ) (f : ℕ → ℕ) where
   -- at q frames and r ticks

@@ -2,7 +2,7 @@
 use Rattle.std.specs.Prelude.{ℕ, ◌+◌, ◌-◌, cond, Some, None, Ok, Err, Option, Result, ◌==◌, nat_le}
 use Rattle.tables.specs.Curves.{convolved, excess, growth, settling_length, shortest_delay, subadditive, most_passed}
 use Rattle.tables.specs.Limits.{limit}
-use Rattle.tables.specs.Tables.{Curve, Curves, curve, curves, paired}
+use Rattle.tables.specs.Tables.{Curve, Curves, curves, paired}
 use Rattle.tables.specs.declared.refusal.Refusal.{Refusal}
 use Rattle.tables.specs.declared.refusal.Refusal.TheVariants.{Frame, Shape, Overload, Crowd}
 use Rattle.tables.specs.declared.bounds.ServerBounds.{ServerBounds}

@@ -2,11 +2,9 @@
 use Rattle.std.specs.Prelude.{ℕ, Bool, cond, ◌&&◌, List, length, Ok, Err, Result, ◌==◌, nat_le}
 use Rattle.tables.specs.Curves.{given, lawful, nowhere_above}
 use Rattle.tables.specs.Limits.{longest}
-use Rattle.tables.specs.Tables.{Curve, Curves, curve, curves, tabled, paired}
+use Rattle.tables.specs.Tables.{Curve, Curves, tabled, paired}
 use Rattle.tables.specs.declared.refusal.Refusal.{Refusal}
 use Rattle.tables.specs.declared.refusal.Refusal.TheVariants.{Frame, Table as Lawless}
-use Rattle.tables.specs.declared.table.Table.{Table}
-use Rattle.tables.specs.declared.pair.Pair.{Pair}
 
 -- an answer, by what its table or pair is to a reader
 abbrev pub answer : {X Y : Type 0} → (X → Y) → Result X Refusal → Result Y Refusal

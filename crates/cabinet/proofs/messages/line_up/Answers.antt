@@ -1,4 +1,4 @@
-use Rattle.std.proofs.Common.{◌≡◌, suc, ◌+◌, sym, ap, ◌∙◌, arith}
+use Rattle.std.proofs.Common.{◌≡◌, suc, ◌+◌, ap, ◌∙◌, arith}
 use Rattle.tables.specs.Courses.{sum}
 use Rattle.cabinet.specs.Times.{handed}
 use Rattle.cabinet.proofs.messages.line_up.Goals as goal

@@ -1,7 +1,7 @@
 use Rattle.std.proofs.Common.{◌≡◌, true, eqb, Some, Ok, sym, ap, ◌∙◌, arith}
 use Rattle.std.proofs.lemmas.Bool.{eq-eqb, cond-true}
 use Rattle.tables.specs.Bounds.{Serving, if_settled, settled}
-use Rattle.tables.specs.Curves.{settling_length, Shortest}
+use Rattle.tables.specs.Curves.{settling_length}
 use Rattle.tables.specs.Tables.{at, curves}
 use Rattle.tables.proofs.Curves.{settling_settles, delay_shortest, excess_le}
 use Rattle.tables.proofs.Tables.{at_le, at_rises}

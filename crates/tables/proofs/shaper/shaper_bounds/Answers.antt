@@ -1,4 +1,4 @@
-use Rattle.std.proofs.Common.{◌≡◌, ◌≤◌, true, eqb, leb, Ok, sym, ap, ◌∙◌, arith, rules}
+use Rattle.std.proofs.Common.{◌≡◌, ◌≤◌, true, eqb, Ok, sym, ap, ◌∙◌, arith, rules}
 use Rattle.std.proofs.lemmas.Bool.{eq-eqb, le-leb, cond-true}
 use Rattle.tables.specs.Bounds.{Shaping, shaped}
 use Rattle.tables.specs.Curves.{shortest_delay, subadditive, excess}

@@ -1,4 +1,4 @@
-use Rattle.std.proofs.Common.{◌∙◌, arith}
+use Rattle.std.proofs.Common.{arith}
 use Rattle.tables.proofs.Fills.{filled_more}
 use Rattle.tables.proofs.sweeps.convolved_all.Goals as goal
 

@@ -1,4 +1,4 @@
-use Rattle.std.proofs.Common.{◌≡◌, ◌<◌, [], ◌∷◌, ◌++◌, map, length, take, set, refl, ap, ◌∙◌, arith, rules}
+use Rattle.std.proofs.Common.{◌<◌, [], ◌∷◌, map, length, take, refl, ap, ◌∙◌, rules}
 use Rattle.std.proofs.lemmas.List.{take_more_set, map-append}
 use Rattle.book.specs.Chains.{staged}
 use Rattle.book.proofs.analysis.Analysis.add.Goals as goal

@@ -1,4 +1,4 @@
-use Rattle.std.proofs.Common.{◌≡◌, true, sym, ◌∙◌, arith, rules}
+use Rattle.std.proofs.Common.{◌≡◌, true, arith, rules}
 use Rattle.book.specs.Books.{whole}
 use Rattle.book.proofs.Chaining.{whole_parts}
 use Rattle.book.proofs.analysis.makes.analyse.Goals as goal

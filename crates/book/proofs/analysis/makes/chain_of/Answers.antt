@@ -1,7 +1,7 @@
-use Rattle.std.proofs.Common.{◌≡◌, ℕ, suc, ◌+◌, ◌-◌, ◌*◌, ◌/◌, List, [], ◌∷◌, ◌++◌, length, take, drop, Ok, Err, sym, refl, ap, ◌∙◌, add-one, arith, rules}
+use Rattle.std.proofs.Common.{◌≡◌, suc, ◌+◌, ◌-◌, ◌*◌, ◌/◌, length, take, drop, Ok, Err, sym, ap, ◌∙◌, add-one, arith}
 use Rattle.std.proofs.lemmas.List.{drop-drop}
 use Rattle.tables.specs.Tables.{curves}
-use Rattle.book.specs.Books.{Chained, Turned, chained, chain_on, started}
+use Rattle.book.specs.Books.{chained, chain_on}
 use Rattle.book.specs.Chains.{staged, next_answer}
 use Rattle.book.proofs.Chaining.{chain_goes, chain_ends, whole_parts}
 use Rattle.book.proofs.analysis.makes.chain_of.Goals as goal

@@ -1,4 +1,4 @@
-use Rattle.std.proofs.Common.{◌≡◌, ◌+◌, ◌-◌, ◌*◌, ◌/◌, ◌≤◌, [], length, drop}
+use Rattle.std.proofs.Common.{◌≡◌, ◌+◌, ◌-◌, ◌*◌, ◌/◌, length, drop}
 use Rattle.tables.specs.Tables.{curves}
 use Rattle.book.specs.Books.{chained, chain_on, started}
 use Rattle.book.proofs.analysis.makes.chain_of.Given as goal

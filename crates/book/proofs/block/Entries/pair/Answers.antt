@@ -1,4 +1,4 @@
-use Rattle.std.proofs.Common.{◌≡◌, true, ◌&&◌, sym, ap, ◌∙◌, arith, rules}
+use Rattle.std.proofs.Common.{◌≡◌, true, ◌&&◌, sym, ◌∙◌, arith, rules}
 use Rattle.std.proofs.lemmas.Bool.{le-leb, cond-true, and_from}
 use Rattle.tables.specs.Limits.{longest}
 use Rattle.tables.specs.Makes.{answer, framed, pair_answer}

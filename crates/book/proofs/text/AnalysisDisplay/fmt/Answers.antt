@@ -1,9 +1,9 @@
-use Rattle.std.proofs.Common.{◌≡◌, ℕ, true, List, ◌++◌, map, refl, ap}
+use Rattle.std.proofs.Common.{ℕ, true, List, ◌++◌, map, refl, ap}
 use Rattle.std.proofs.Output.{has_written_of_eq, has_written_append}
 use Rattle.tables.specs.Tables.{curves}
 use Rattle.book.specs.Books.{chained}
 use Rattle.book.specs.Chains.{staged}
-use Rattle.book.specs.Text.{first_text, lines_text, totals_text, total_wait, total_delay, listing_text}
+use Rattle.book.specs.Text.{first_text, lines_text, totals_text, listing_text}
 use Rattle.book.proofs.text.AnalysisDisplay.fmt.Goals as goal
 
 pub returns-clause-writes : goal.returns-clause-writes

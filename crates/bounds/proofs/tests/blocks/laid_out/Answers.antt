@@ -1,4 +1,4 @@
-use Rattle.std.proofs.Common.{◌∙◌, inl, inr, arith, lit<, lit≤}
+use Rattle.std.proofs.Common.{◌∙◌, inl, inr, arith, lit<}
 use Rattle.bounds.proofs.Ends.{unwritten}
 use Rattle.bounds.proofs.tests.blocks.laid_out.Goals as goal
 

@@ -1,4 +1,4 @@
-use Rattle.std.proofs.Common.{◌≡◌, Some, sym, ap, ◌∙◌, arith}
+use Rattle.std.proofs.Common.{Some, sym, ap, ◌∙◌, arith}
 use Rattle.runs.specs.Held.{holds}
 use Rattle.runs.proofs.Rounds.{length_held, at_held, nth_past, nth_at}
 use Rattle.runs.proofs.slots.Ring.get.Goals as goal

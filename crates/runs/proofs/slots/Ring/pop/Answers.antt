@@ -1,4 +1,4 @@
-use Rattle.std.proofs.Common.{refl, arith, rules}
+use Rattle.std.proofs.Common.{refl, arith}
 use Rattle.runs.proofs.Rounds.{pop_held}
 use Rattle.runs.proofs.slots.Ring.pop.Goals as goal
 

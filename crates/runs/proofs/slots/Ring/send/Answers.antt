@@ -1,5 +1,4 @@
-use Rattle.std.proofs.Common.{◌<◌, length, ap, ◌∙◌, arith, rules}
-use Rattle.runs.specs.Held.{held_in}
+use Rattle.std.proofs.Common.{◌<◌, length, ap, ◌∙◌, arith}
 use Rattle.runs.proofs.Rounds.{send_step, send_rest}
 use Rattle.runs.proofs.slots.Ring.send.Goals as goal
 use Rattle.runs.proofs.slots.Ring.send.Goals.{in-Some, in_default}

@@ -1,5 +1,5 @@
-use Rattle.std.proofs.Common.{◌≡◌, List, ◌∷◌, refl, subst}
-use Rattle.flows.specs.Views.{View, Idle, All}
+use Rattle.std.proofs.Common.{refl, subst}
+use Rattle.flows.specs.Views.{Idle, All}
 use Rattle.runs.specs.Held.{holds}
 use Rattle.runs.proofs.Every.{at_start, every}
 use Rattle.runs.proofs.states.Fitted.start.Goals as goal

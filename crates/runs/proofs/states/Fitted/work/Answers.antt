@@ -1,5 +1,4 @@
-use Rattle.std.proofs.Common.{◌≡◌, sym, refl, subst}
-use Rattle.flows.specs.Views.{Idle, All}
+use Rattle.std.proofs.Common.{refl, subst}
 use Rattle.runs.specs.Held.{holds, room}
 use Rattle.runs.specs.Runs.{lists, EveryRun}
 use Rattle.runs.specs.Calls.{desk, nothing, Through}

@@ -1,7 +1,7 @@
-use Rattle.std.proofs.Common.{◌≡◌, ◌≤◌, None, sym, ◌∙◌, arith}
+use Rattle.std.proofs.Common.{◌≡◌, None, sym, arith}
 use Rattle.stages.proofs.Opens.{first_few}
 use Rattle.runs.specs.Held.{holds, room}
-use Rattle.runs.specs.Runs.{State, lists, refusal_of_carry}
+use Rattle.runs.specs.Runs.{lists, refusal_of_carry}
 use Rattle.runs.proofs.Rounds.{length_held}
 use Rattle.runs.proofs.Tops.{top_fine, ready}
 use Rattle.runs.proofs.states.Running.carry.Goals as goal

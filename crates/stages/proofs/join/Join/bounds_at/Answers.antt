@@ -1,4 +1,4 @@
-use Rattle.std.proofs.Common.{◌≡◌, ◌-◌, ◌++◌, sym, ◌∙◌, arith}
+use Rattle.std.proofs.Common.{◌-◌, ◌++◌, sym, ◌∙◌, arith}
 use Rattle.flows.proofs.Views.{look_first, look_second}
 use Rattle.stages.specs.Joins.{join_view}
 use Rattle.stages.proofs.Opens.{look_open}

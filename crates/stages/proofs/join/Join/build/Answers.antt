@@ -1,4 +1,4 @@
-use Rattle.std.proofs.Common.{◌≡◌, false, is_ok, Ok, Err, sym, refl, ap, ◌∙◌}
+use Rattle.std.proofs.Common.{◌≡◌, false, is_ok, Ok, Err, refl, ap, ◌∙◌}
 use Rattle.tables.specs.Bounds.{join_answer}
 use Rattle.tables.specs.Tables.{curves, paired}
 use Rattle.tables.specs.declared.pair.Pair.{Pair}

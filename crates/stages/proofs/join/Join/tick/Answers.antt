@@ -1,4 +1,4 @@
-use Rattle.std.proofs.Common.{refl, arith, rules}
+use Rattle.std.proofs.Common.{refl, rules}
 use Rattle.stages.proofs.Joining.{ticked}
 use Rattle.stages.proofs.Opens.{first_small}
 use Rattle.stages.proofs.join.Join.tick.Goals as goal

@@ -1,12 +1,9 @@
-use Rattle.std.proofs.Common.{◌≡◌, true, false, ◌++◌, is_ok, Ok, Err, Result, sym, refl, ap, ◌∙◌, subst}
-use Rattle.tables.specs.Bounds.{Serving, serving, server_answer}
-use Rattle.tables.specs.Makes.{answer}
+use Rattle.std.proofs.Common.{◌≡◌, is_ok, Ok, Err, sym, refl, ap, ◌∙◌, subst}
+use Rattle.tables.specs.Bounds.{serving, server_answer}
 use Rattle.tables.specs.Curves.{Settles, Shortest}
 use Rattle.tables.specs.Tables.{at, curves}
-use Rattle.tables.specs.declared.pair.Pair.{Pair}
-use Rattle.tables.specs.declared.refusal.Refusal.{Refusal}
 use Rattle.courses.specs.Steps.{server_after}
-use Rattle.flows.specs.Views.{All, Idle, Fine}
+use Rattle.flows.specs.Views.{Idle, Fine}
 use Rattle.flows.proofs.Views.{all_append}
 use Rattle.stages.specs.Servers.{fits, server_figures, serving_or_closed}
 use Rattle.stages.proofs.Fitting.{open_fine}

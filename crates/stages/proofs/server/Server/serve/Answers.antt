@@ -1,4 +1,4 @@
-use Rattle.std.proofs.Common.{refl, arith, rules}
+use Rattle.std.proofs.Common.{refl, rules}
 use Rattle.stages.proofs.Opens.{first_small, open_at}
 use Rattle.stages.proofs.Serving.{ticked, held}
 use Rattle.stages.proofs.server.Server.serve.Goals as goal

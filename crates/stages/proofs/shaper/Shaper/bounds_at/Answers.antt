@@ -1,4 +1,4 @@
-use Rattle.std.proofs.Common.{◌≡◌, sym, ◌∙◌, arith}
+use Rattle.std.proofs.Common.{sym, ◌∙◌, arith}
 use Rattle.stages.specs.Shapers.{shaper_view}
 use Rattle.stages.proofs.Opens.{look_open}
 use Rattle.stages.proofs.shaper.Shaper.bounds_at.Goals as goal

@@ -1,4 +1,4 @@
-use Rattle.std.proofs.Common.{◌≡◌, true, false, is_ok, Ok, Err, sym, refl, ap, ◌∙◌, subst}
+use Rattle.std.proofs.Common.{◌≡◌, is_ok, Ok, Err, sym, refl, ap, ◌∙◌, subst}
 use Rattle.tables.specs.Bounds.{shaping, shaper_answer}
 use Rattle.tables.specs.Curves.{Shortest}
 use Rattle.tables.specs.Tables.{at, curve, curves}

@@ -1,4 +1,4 @@
-use Rattle.std.proofs.Common.{◌≡◌, true, false, sym, arith, rules}
+use Rattle.std.proofs.Common.{◌≡◌, false, sym, arith, rules}
 use Rattle.std.proofs.lemmas.Bool.{true≢false, false≢true}
 use Rattle.tables.specs.Bottoms.{kept_by}
 use Rattle.tables.specs.Tables.{at}

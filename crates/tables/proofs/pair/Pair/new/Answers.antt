@@ -1,6 +1,6 @@
-use Rattle.std.proofs.Common.{◌≡◌, true, ◌&&◌, eqb, length, Ok, sym, refl, ap, ◌∙◌, arith, rules}
+use Rattle.std.proofs.Common.{◌≡◌, true, ◌&&◌, eqb, length, Ok, sym, ap, ◌∙◌, arith, rules}
 use Rattle.std.proofs.lemmas.Bool.{le-leb, eq-eqb, cond-true, and_from}
-use Rattle.tables.specs.Curves.{given, lawful, nowhere_above}
+use Rattle.tables.specs.Curves.{given}
 use Rattle.tables.specs.Limits.{longest}
 use Rattle.tables.specs.Makes.{framed, lawful_pair}
 use Rattle.tables.proofs.Curves.{lawful_graph}

@@ -1,4 +1,4 @@
-use Rattle.std.proofs.Common.{◌≡◌, ◌+◌, ◌-◌, get_or, sym, refl, ap, ◌∙◌, arith, rules}
+use Rattle.std.proofs.Common.{◌≡◌, ◌+◌, ◌-◌, refl, ap, ◌∙◌, arith, rules}
 use Rattle.tables.specs.Curves.{repeated}
 use Rattle.tables.proofs.Fills.{filled_more, filled_front, laid_out}
 use Rattle.tables.proofs.Tables.{repeated_later, repeated_le, repeated_within}

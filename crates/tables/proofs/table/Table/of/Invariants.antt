@@ -1,4 +1,3 @@
-use Rattle.std.proofs.Common.{◌*◌, ◌≤◌}
 use Rattle.tables.specs.Curves.{repeated}
 use Rattle.tables.proofs.Fills.{Filled}
 use Rattle.tables.proofs.table.Table.of.Given as goal
