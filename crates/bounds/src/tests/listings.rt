@@ -7,30 +7,34 @@ ghost use Rattle.book.specs.Text.{answer_text};
 use super::blocks::{EVENTS, SERVICE, SHAPING, block, book_of};
 use book::{analyse, answer_of};
 use std::alloc::Global;
-use std::process::Abort;
 use std::test::Fail;
 
-fn check_listed(rt: &impl Abort, heap: Global, blocks: &[[u8; 512]], text: &str) -> Result<(), Fail>
+fn check_listed(heap: Global, blocks: &[[u8; 512]], text: &str) -> Result<(), Fail>
     ensures { OnOk result ((is_ok (book_answer (flat_map (λ b. b) blocks.now)) ≡ true) × (answer_text (book_answer (flat_map (λ b. b) blocks.now)) ≡ text.now)) }
 {
     let answer = answer_of(heap, &book_of(heap, blocks)?)?;
-    assert!(rt; answer.accepted);
-    assert_eq!(rt; answer.text.as_str(), text);
-    Ok(())
+    if !answer.accepted {
+        return Err(Fail::new("the book is refused"));
+    }
+    if answer.text.as_str() == text {
+        Ok(())
+    } else {
+        Err(Fail::new("another text is printed"))
+    }
 }
 
-fn check_refused(
-    rt: &impl Abort,
-    heap: Global,
-    blocks: &[[u8; 512]],
-    text: &str,
-) -> Result<(), Fail>
+fn check_refused(heap: Global, blocks: &[[u8; 512]], text: &str) -> Result<(), Fail>
     ensures { OnOk result ((is_ok (book_answer (flat_map (λ b. b) blocks.now)) ≡ false) × (answer_text (book_answer (flat_map (λ b. b) blocks.now)) ≡ text.now)) }
 {
     let answer = answer_of(heap, &book_of(heap, blocks)?)?;
-    assert!(rt; !answer.accepted);
-    assert_eq!(rt; answer.text.as_str(), text);
-    Ok(())
+    if answer.accepted {
+        return Err(Fail::new("the book is accepted"));
+    }
+    if answer.text.as_str() == text {
+        Ok(())
+    } else {
+        Err(Fail::new("another text is printed"))
+    }
 }
 
 #[test]
@@ -42,7 +46,7 @@ fn three_blocks(rt: HostRuntime) -> Result<(), Fail> {
     ];
     let text =
         "frame 4\n1 events most 2 3 3 4 least 0 0 1 2\n2 server most 2 3 4 4 least 0 0 0 1 wait 2 delay 2\n3 shaper most 1 2 3 4 least 0 0 0 1 wait 1 delay 1\ntotal wait 3 delay 3\n";
-    check_listed(&rt, rt.alloc(), &blocks, text)
+    check_listed(rt.alloc(), &blocks, text)
 }
 
 #[test]
@@ -53,7 +57,7 @@ fn join(rt: HostRuntime) -> Result<(), Fail> {
     ];
     let text =
         "frame 2\n1 events most 1 3 least 0 1\n2 join most 3 5 least 1 2 wait 0 delay 0\ntotal wait 0 delay 0\n";
-    check_listed(&rt, rt.alloc(), &blocks, text)
+    check_listed(rt.alloc(), &blocks, text)
 }
 
 #[test]
@@ -65,7 +69,7 @@ fn shortest_frame(rt: HostRuntime) -> Result<(), Fail> {
     ];
     let text =
         "frame 1\n1 events most 3 least 1\n2 server most 3 least 1 wait 0 delay 0\n3 shaper most 3 least 1 wait 0 delay 0\ntotal wait 0 delay 0\n";
-    check_listed(&rt, rt.alloc(), &blocks, text)
+    check_listed(rt.alloc(), &blocks, text)
 }
 
 // 1, 2 and on to 64.
@@ -109,7 +113,7 @@ fn refusals(rt: HostRuntime) -> Result<(), Fail> {
     let heap = rt.alloc();
     let first = block(EVENTS, 1, &[1], &[0]);
     let second = block(SERVICE, 1, &[1], &[0]);
-    check_refused(&rt, heap, &[], "refused 1 block 0\n")?;
-    check_refused(&rt, heap, &[second], "refused 3 block 1\n")?;
-    check_refused(&rt, heap, &[first, second], "refused 7 block 2\n")
+    check_refused(heap, &[], "refused 1 block 0\n")?;
+    check_refused(heap, &[second], "refused 3 block 1\n")?;
+    check_refused(heap, &[first, second], "refused 7 block 2\n")
 }
