@@ -1,5 +1,5 @@
 -- A stage one tick later keeps its bounds too.
-use Rattle.std.proofs.Common.{◌≡◌, ℕ, zero, suc, ◌+◌, ◌-◌, ◌≤◌, List, [], ◌∷◌, ◌++◌, map, IfSome, Some, None, Ok, Err, Option, ap, arith}
+use Rattle.std.proofs.Common.{◌≡◌, ℕ, zero, suc, ◌+◌, ◌-◌, ◌≤◌, List, [], ◌∷◌, ◌++◌, map, IfSome, MatchResult, Some, None, Ok, Err, Option, Result, sym, ap, ◌∙◌, arith}
 use mathlib.Core.Path.{fun_ext}
 use Rattle.tables.specs.Courses.{sum, later}
 use Rattle.tables.specs.declared.pair.Pair.{Pair}
@@ -54,3 +54,9 @@ pub look_second : (us vs : List View) (k j : ℕ) → look us k ≡ Err j → lo
 look_second [] vs k j h = let e : k ≡ j = cc in ap (look vs) e
 look_second (u ∷ us) vs zero j h = let z : ◌≡◌ {A = ℕ} 0 1 = cc in absurd (omega arith)
 look_second (u ∷ us) vs (suc k) j h = look_second us vs k j h
+
+-- an answer of the first list, or of what is past it in the second
+pub look_both : (us vs : List View) (k : ℕ) (r out : Result StageBounds ℕ) (P : ℕ → Type 0) → r ≡ look us k
+    → MatchResult r (λ b. out ≡ Ok b) P → ((j : ℕ) → P j → out ≡ look vs j) → out ≡ look (us ++ vs) k
+look_both us vs k (Ok b) out P is h past = h ∙ sym (look_first us vs k b (sym is))
+look_both us vs k (Err j) out P is h past = past j h ∙ sym (look_second us vs k j (sym is))

@@ -11,6 +11,11 @@ abbrev pub number_given : {X : Type 0} → Result X Refusal → ℕ
 number_given (Ok _) = 0
 number_given (Err e) = number_of e
 
+-- an answer without what it holds: accepted, or the refusal
+abbrev pub verdict : {X : Type 0} → Result X Refusal → Result (Unit {0}) Refusal
+verdict (Ok _) = Ok tt
+verdict (Err e) = Err e
+
 -- the pair of an answer: that of the closed flow where it is a refusal
 abbrev pub or_closed : Result Curves Refusal → Curves
 or_closed (Ok c) = c

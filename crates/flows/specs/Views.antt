@@ -1,5 +1,7 @@
 -- The stages of a network, as their bounds speak of them.
 use Rattle.std.specs.Prelude.{◌≡◌, ℕ, zero, suc, ◌+◌, ◌≤◌, List, [], ◌∷◌, IfSome, Ok, Err, Result}
+use Rattle.std.specs.Coded.{×_prop, Unit-prop}
+use Rattle.std.proofs.Props.{props}
 use Rattle.tables.specs.Courses.{sum}
 use Rattle.tables.specs.Tables.{at}
 use Rattle.tables.specs.declared.pair.Pair.{Pair}
@@ -50,6 +52,14 @@ next_view v = record {
 abbrev pub All : {X : Type 0} → (X → Type 0) → List X → Type 0
 All P [] = Unit {0}
 All P (x ∷ xs) = P x × All P xs
+
+-- a fact has one proof: so a type may keep it
+pub fine_prop : (v : View) → IsProp (Fine v)
+fine_prop v = hlevel props
+
+pub all_fine_prop : (vs : List View) → IsProp (All Fine vs)
+all_fine_prop [] = Unit-prop
+all_fine_prop (v ∷ vs) = ×_prop (fine_prop v) (all_fine_prop vs)
 
 -- the bounds of the stage at place i, or how far i lies past the last
 abbrev pub look : List View → ℕ → Result StageBounds ℕ

@@ -1,16 +1,16 @@
 // The clocked flow.
-ghost use Rattle.std.specs.Prelude.{◌≡◌, ℕ, ◌+◌, ◌≤◌, true, [], is_ok};
+ghost use Rattle.std.specs.Prelude.{◌≡◌, ℕ, ◌+◌, ◌<◌, ◌≤◌, true, [], is_ok};
 ghost use Rattle.tables.specs.Bottoms.{clocked_answer, up};
 ghost use Rattle.tables.specs.Courses.{sum};
-ghost use Rattle.tables.specs.Tables.{curves};
+ghost use Rattle.tables.specs.Tables.{curves, paired};
 ghost use Rattle.courses.specs.Bottoms.{clocked};
-ghost use Rattle.flows.specs.Checks.{number_given, or_closed, or_nothing};
-ghost use Rattle.flows.specs.States.{clock, Ticks};
+ghost use Rattle.flows.specs.Checks.{or_closed, or_nothing, verdict};
+ghost use Rattle.flows.specs.States.{clock};
+ghost use Rattle.flows.specs.Views.{KeepsPair};
 
-use crate::answers::number_or_zero;
 use crate::bounds::StageBounds;
 use crate::flow::Flow;
-use tables::{Pair, clocked_pair};
+use tables::{Pair, Refusal, clocked_pair};
 
 /// By the end of tick t it has handed over (t + jitter) / period, rounded up.
 #[derive(Clone, Copy)]
@@ -23,15 +23,18 @@ pub struct Clocked {
     // The count of this tick.
     count: u32,
     pair: Pair,
+    ghost inside: { phase < period },
+    ghost keeps: { KeepsPair pair (clock period beat phase count) },
 }
 
 impl Clocked {
-    /// 0, or the number of the refusal: `Frame` where the frame is not 1 to 64, `Clock` where the period is
-    /// not 1 to 10,000 or the jitter is above 10,000.
-    pub fn check(frame: usize, period: u32, jitter: u32) -> u8
-        ensures { result ≡ number_given (clocked_answer frame period jitter) }
+    /// `Frame` where the frame is not 1 to 64, `Clock` where the period is not 1 to 10,000 or the jitter is
+    /// above 10,000.
+    pub fn check(frame: usize, period: u32, jitter: u32) -> Result<(), Refusal>
+        ensures { result ≡ verdict (clocked_answer frame period jitter) }
     {
-        number_or_zero(clocked_pair(frame, period, jitter))
+        clocked_pair(frame, period, jitter)?;
+        Ok(())
     }
 
     /// The flow with that period and jitter, closed where the check refuses.
@@ -39,39 +42,44 @@ impl Clocked {
         ensures pair { curves result.pair ≡ or_closed (clocked_answer frame period jitter) }
         ensures course { clock result.period result.beat result.phase result.count ≡ or_nothing (clocked_answer frame period jitter) (clocked period jitter) }
         ensures handed { is_ok (clocked_answer frame period jitter) ≡ true → (t : ℕ) → 1 ≤ t → sum (clock result.period result.beat result.phase result.count) t ≡ up period (t + jitter) }
-        ensures sound { Ticks result.pair result.period result.beat result.phase result.count }
     {
-        match clocked_pair(frame, period, jitter) {
-            Ok(pair) => Clocked {
-                period,
-                beat: 1,
-                phase: jitter % period,
-                count: (1 + jitter + (period - 1)) / period,
-                pair,
-            },
-            Err(_) => Clocked {
-                period: 1,
-                beat: 0,
-                phase: 0,
-                count: 0,
-                pair: Pair::zero(),
-            },
+        let Ok(pair) = clocked_pair(frame, period, jitter) else {
+            return Clocked::closed();
+        };
+        Clocked {
+            period,
+            beat: 1,
+            phase: jitter % period,
+            count: (1 + jitter + (period - 1)) / period,
+            pair,
+        }
+    }
+
+    // A flow that hands over nothing.
+    fn closed() -> Clocked
+        ensures pair { curves result.pair ≡ paired 1 (λ _. 0) (λ _. 0) }
+        ensures course { clock result.period result.beat result.phase result.count ≡ (λ _. 0) }
+    {
+        Clocked {
+            period: 1,
+            beat: 0,
+            phase: 0,
+            count: 0,
+            pair: Pair::zero(),
         }
     }
 }
 
 impl Flow for Clocked {
-    ghost sound = { λ s. Ticks s.pair s.period s.beat s.phase s.count };
-
     ghost pair = { λ s. s.pair };
 
     ghost course = { λ s. clock s.period s.beat s.phase s.count };
 
     ghost views = { λ _. [] };
 
-    ghost keeps = { λ _ h. h.keeps };
+    ghost keeps = { λ s. s.keeps };
 
-    ghost viewed = { λ _ _. tt };
+    ghost viewed = { λ _. tt };
 
     fn pair(&self) -> &Pair {
         &self.pair

@@ -8,9 +8,6 @@ use tables::Pair;
 
 /// A flow hands over one count in each tick. Whatever keeps these promises may stand below any stage.
 pub trait Flow {
-    // Holds of each state that can be reached from the making.
-    ghost sound: { Self → Type 0 };
-
     // The most and the least of the flow; they stay.
     ghost pair: { Self → Pair };
 
@@ -21,10 +18,10 @@ pub trait Flow {
     ghost views: { Self → List View };
 
     // Each implementation owes that any neighbours of its course keep its pair.
-    ghost keeps: { (x : Self) → sound x → KeepsPair (pair x) (course x) };
+    ghost keeps: { (x : Self) → KeepsPair (pair x) (course x) };
 
     // And that each stage from here down keeps its bounds for ever.
-    ghost viewed: { (x : Self) → sound x → All Fine (views x) };
+    ghost viewed: { (x : Self) → All Fine (views x) };
 
     /// The pair of the flow.
     fn pair(&self) -> &Pair
@@ -32,12 +29,10 @@ pub trait Flow {
 
     /// The count of this tick.
     fn draw(&mut self) -> u32
-        requires { sound self.old }
         ensures count { result ≡ course self.old 0 }
         ensures next { course self.new ≡ tail (course self.old) }
         ensures same { pair self.new ≡ pair self.old }
-        ensures views { views self.new ≡ map next_view (views self.old) }
-        ensures sound { sound self.new };
+        ensures views { views self.new ≡ map next_view (views self.old) };
 
     /// The bounds of the stage at a place, counted from 0 at the top, or how far the place lies past the
     /// last stage.

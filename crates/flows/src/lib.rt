@@ -11,6 +11,7 @@ mod steady;
 #[cfg(test)]
 mod tests;
 
+pub use answers::number_given;
 pub use bounds::StageBounds;
 pub use clocked::Clocked;
 pub use flow::Flow;

@@ -3,14 +3,14 @@ ghost use Rattle.std.specs.Prelude.{◌≡◌, ℕ, ◌<◌, ◌≤◌, [], leng
 ghost use Rattle.tables.specs.Bottoms.{slotted_answer};
 ghost use Rattle.tables.specs.Courses.{slotted, recorded};
 ghost use Rattle.tables.specs.Limits.{longest};
-ghost use Rattle.tables.specs.Tables.{curves};
-ghost use Rattle.flows.specs.Checks.{number_given, or_closed, or_nothing};
-ghost use Rattle.flows.specs.States.{turning, Turns};
+ghost use Rattle.tables.specs.Tables.{curves, paired};
+ghost use Rattle.flows.specs.Checks.{or_closed, or_nothing, verdict};
+ghost use Rattle.flows.specs.States.{turning};
+ghost use Rattle.flows.specs.Views.{KeepsPair};
 
-use crate::answers::number_or_zero;
 use crate::bounds::StageBounds;
 use crate::flow::Flow;
-use tables::{Pair, slotted_pair};
+use tables::{Pair, Refusal, slotted_pair};
 
 /// The counts of a list in turn, for ever.
 #[derive(Clone, Copy)]
@@ -21,6 +21,9 @@ pub struct Slotted {
     // The place of the count of this tick.
     place: usize,
     pair: Pair,
+    ghost few: { frame ≤ longest },
+    ghost inside: { place < frame },
+    ghost keeps: { KeepsPair pair (turning frame counts place) },
 }
 
 // The counts at the front of an array.
@@ -29,56 +32,59 @@ fn laid_out(counts: &[u32]) -> [u32; 64]
     ensures { (k : ℕ) → k < length counts.now → slice_index result k ≡ slice_index counts.now k }
 {
     let mut all = [0; 64];
-    for k in 0..counts.len() {
-        all[k] = counts[k];
-    }
+    all[..counts.len()].copy_from_slice(counts);
     all
 }
 
 impl Slotted {
-    /// 0, or the number of the refusal: `Frame` where there are not 1 to 64 counts, `Table` where they add
-    /// up to more than the limit.
-    pub fn check(counts: &[u32]) -> u8
-        ensures { result ≡ number_given (slotted_answer counts.now) }
+    /// `Frame` where there are not 1 to 64 counts, `Table` where they add up to more than the limit.
+    pub fn check(counts: &[u32]) -> Result<(), Refusal>
+        ensures { result ≡ verdict (slotted_answer counts.now) }
     {
-        number_or_zero(slotted_pair(counts))
+        slotted_pair(counts)?;
+        Ok(())
     }
 
     /// The flow with these counts, closed where the check refuses.
     pub fn build(counts: &[u32]) -> Slotted
         ensures pair { curves result.pair ≡ or_closed (slotted_answer counts.now) }
         ensures course { turning result.frame result.counts result.place ≡ or_nothing (slotted_answer counts.now) (slotted (length counts.now) (recorded counts.now)) }
-        ensures sound { Turns result.pair result.frame result.counts result.place }
     {
-        match slotted_pair(counts) {
-            Ok(pair) => Slotted {
-                counts: laid_out(counts),
-                frame: counts.len(),
-                place: 0,
-                pair,
-            },
-            Err(_) => Slotted {
-                counts: [0; 64],
-                frame: 1,
-                place: 0,
-                pair: Pair::zero(),
-            },
+        let Ok(pair) = slotted_pair(counts) else {
+            return Slotted::closed();
+        };
+        Slotted {
+            counts: laid_out(counts),
+            frame: counts.len(),
+            place: 0,
+            pair,
+        }
+    }
+
+    // A flow that hands over nothing.
+    fn closed() -> Slotted
+        ensures pair { curves result.pair ≡ paired 1 (λ _. 0) (λ _. 0) }
+        ensures course { turning result.frame result.counts result.place ≡ (λ _. 0) }
+    {
+        Slotted {
+            counts: [0; 64],
+            frame: 1,
+            place: 0,
+            pair: Pair::zero(),
         }
     }
 }
 
 impl Flow for Slotted {
-    ghost sound = { λ s. Turns s.pair s.frame s.counts s.place };
-
     ghost pair = { λ s. s.pair };
 
     ghost course = { λ s. turning s.frame s.counts s.place };
 
     ghost views = { λ _. [] };
 
-    ghost keeps = { λ _ h. h.keeps };
+    ghost keeps = { λ s. s.keeps };
 
-    ghost viewed = { λ _ _. tt };
+    ghost viewed = { λ _. tt };
 
     fn pair(&self) -> &Pair {
         &self.pair

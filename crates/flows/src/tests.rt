@@ -1,20 +1,17 @@
 // The bottom flows on small inputs.
-ghost use Rattle.std.specs.Prelude.{◌≡◌, ℕ, ◌<◌, [], ◌∷◌, length, IsOkAnd, Decides, slice_index};
-ghost use Rattle.tables.specs.Curves.{given};
-ghost use Rattle.tables.specs.Tables.{at, curve, row, tabled};
+ghost use Rattle.std.specs.Prelude.{◌≡◌, ℕ, ◌<◌, length, Decides, slice_index};
+ghost use Rattle.tables.specs.Tables.{at, row};
 
-use crate::{Clocked, Flow, Recorded, Slotted, Steady};
+use crate::{Clocked, Flow, Recorded, Slotted, Steady, number_given};
 use std::test::Fail;
 use tables::{Pair, Table};
 
 // Whether the next counts are these.
 fn hands_over<F: Flow>(flow: &mut F, counts: &[u32]) -> bool
-    requires { F.Flow.sound flow.old }
-    ensures decides { Decides result ((k : ℕ) → k < length counts.now → F.Flow.course flow.old k ≡ slice_index counts.now k) }
-    ensures sound { F.Flow.sound flow.new }
+    ensures { Decides result ((k : ℕ) → k < length counts.now → F.Flow.course flow.old k ≡ slice_index counts.now k) }
 {
-    for k in 0..counts.len() {
-        if flow.draw() != counts[k] {
+    for &count in counts {
+        if flow.draw() != count {
             return false;
         }
     }
@@ -28,20 +25,10 @@ fn shows(pair: &Pair, most: &[u32], least: &[u32]) -> bool
     pair.most.entries() == most && pair.least.entries() == least
 }
 
-// The most table 2 3 3 4.
-fn table() -> Result<Table, u8>
-    ensures { IsOkAnd result (λ t. curve t ≡ tabled 4 (given (2 ∷ 3 ∷ 3 ∷ 4 ∷ []))) }
-{
-    match Table::new(&[2, 3, 3, 4]) {
-        Ok(table) => Ok(table),
-        Err(refusal) => Err(refusal.number()),
-    }
-}
-
 #[test]
 fn recorded_in_order(rt: HostRuntime) -> Result<(), Fail> {
-    let most = table()?;
-    assert_eq!(rt; Recorded::check(&[2, 1, 0, 1], &most), 0);
+    let most = Table::new(&[2, 3, 3, 4])?;
+    assert_eq!(rt; number_given(Recorded::check(&[2, 1, 0, 1], &most)), 0);
     let mut flow = Recorded::build(&[2, 1, 0, 1], &most);
     assert!(rt; shows(flow.pair(), &[2, 3, 3, 4], &[0, 0, 0, 0]));
     assert!(rt; hands_over(&mut flow, &[2, 1, 0, 1, 0, 0, 0]));
@@ -50,8 +37,8 @@ fn recorded_in_order(rt: HostRuntime) -> Result<(), Fail> {
 
 #[test]
 fn recorded_refused(rt: HostRuntime) -> Result<(), Fail> {
-    let most = table()?;
-    assert_eq!(rt; Recorded::check(&[2, 2], &most), 9);
+    let most = Table::new(&[2, 3, 3, 4])?;
+    assert_eq!(rt; number_given(Recorded::check(&[2, 2], &most)), 9);
     let mut flow = Recorded::build(&[2, 2], &most);
     assert!(rt; shows(flow.pair(), &[0], &[0]));
     assert!(rt; hands_over(&mut flow, &[0, 0, 0]));
@@ -60,8 +47,8 @@ fn recorded_refused(rt: HostRuntime) -> Result<(), Fail> {
 
 #[test]
 fn recorded_empty(rt: HostRuntime) -> Result<(), Fail> {
-    let most = table()?;
-    assert_eq!(rt; Recorded::check(&[], &most), 0);
+    let most = Table::new(&[2, 3, 3, 4])?;
+    assert_eq!(rt; number_given(Recorded::check(&[], &most)), 0);
     let mut flow = Recorded::build(&[], &most);
     assert!(rt; shows(flow.pair(), &[2, 3, 3, 4], &[0, 0, 0, 0]));
     assert!(rt; hands_over(&mut flow, &[0, 0, 0]));
@@ -70,7 +57,7 @@ fn recorded_empty(rt: HostRuntime) -> Result<(), Fail> {
 
 #[test]
 fn clocked_by_the_formula(rt: HostRuntime) {
-    assert_eq!(rt; Clocked::check(8, 5, 2), 0);
+    assert_eq!(rt; number_given(Clocked::check(8, 5, 2)), 0);
     let mut flow = Clocked::build(8, 5, 2);
     assert!(rt;
         shows(
@@ -92,12 +79,12 @@ fn clocked_bursts(rt: HostRuntime) {
 
 #[test]
 fn clocked_refused(rt: HostRuntime) {
-    assert_eq!(rt; Clocked::check(64, 10_000, 10_000), 0);
-    assert_eq!(rt; Clocked::check(8, 0, 0), 10);
-    assert_eq!(rt; Clocked::check(8, 10_001, 0), 10);
-    assert_eq!(rt; Clocked::check(8, 5, 10_001), 10);
-    assert_eq!(rt; Clocked::check(0, 0, 0), 4);
-    assert_eq!(rt; Clocked::check(65, 10_001, 10_001), 4);
+    assert_eq!(rt; number_given(Clocked::check(64, 10_000, 10_000)), 0);
+    assert_eq!(rt; number_given(Clocked::check(8, 0, 0)), 10);
+    assert_eq!(rt; number_given(Clocked::check(8, 10_001, 0)), 10);
+    assert_eq!(rt; number_given(Clocked::check(8, 5, 10_001)), 10);
+    assert_eq!(rt; number_given(Clocked::check(0, 0, 0)), 4);
+    assert_eq!(rt; number_given(Clocked::check(65, 10_001, 10_001)), 4);
     let mut flow = Clocked::build(8, 0, 3);
     assert!(rt; shows(flow.pair(), &[0], &[0]));
     assert!(rt; hands_over(&mut flow, &[0, 0, 0]));
@@ -105,11 +92,11 @@ fn clocked_refused(rt: HostRuntime) {
 
 #[test]
 fn steady_and_too_much(rt: HostRuntime) {
-    assert_eq!(rt; Steady::check(64, 15_625), 0);
-    assert_eq!(rt; Steady::check(64, 15_626), 5);
-    assert_eq!(rt; Steady::check(1, u32::MAX), 5);
-    assert_eq!(rt; Steady::check(0, u32::MAX), 4);
-    assert_eq!(rt; Steady::check(65, 0), 4);
+    assert_eq!(rt; number_given(Steady::check(64, 15_625)), 0);
+    assert_eq!(rt; number_given(Steady::check(64, 15_626)), 5);
+    assert_eq!(rt; number_given(Steady::check(1, u32::MAX)), 5);
+    assert_eq!(rt; number_given(Steady::check(0, u32::MAX)), 4);
+    assert_eq!(rt; number_given(Steady::check(65, 0)), 4);
     let mut flow = Steady::build(3, 7);
     assert!(rt; shows(flow.pair(), &[7, 14, 21], &[7, 14, 21]));
     assert!(rt; hands_over(&mut flow, &[7, 7, 7, 7]));
@@ -120,7 +107,7 @@ fn steady_and_too_much(rt: HostRuntime) {
 
 #[test]
 fn slotted_goes_round(rt: HostRuntime) {
-    assert_eq!(rt; Slotted::check(&[0, 2, 1, 1]), 0);
+    assert_eq!(rt; number_given(Slotted::check(&[0, 2, 1, 1])), 0);
     let mut flow = Slotted::build(&[0, 2, 1, 1]);
     assert!(rt; shows(flow.pair(), &[2, 3, 4, 4], &[0, 1, 2, 4]));
     assert!(rt; hands_over(&mut flow, &[0, 2, 1, 1, 0, 2, 1, 1, 0]));
@@ -128,11 +115,11 @@ fn slotted_goes_round(rt: HostRuntime) {
 
 #[test]
 fn slotted_refused(rt: HostRuntime) {
-    assert_eq!(rt; Slotted::check(&[]), 4);
-    assert_eq!(rt; Slotted::check(&[0; 64]), 0);
-    assert_eq!(rt; Slotted::check(&[0; 65]), 4);
-    assert_eq!(rt; Slotted::check(&[1_000_000, 0]), 0);
-    assert_eq!(rt; Slotted::check(&[1_000_000, 1]), 5);
+    assert_eq!(rt; number_given(Slotted::check(&[])), 4);
+    assert_eq!(rt; number_given(Slotted::check(&[0; 64])), 0);
+    assert_eq!(rt; number_given(Slotted::check(&[0; 65])), 4);
+    assert_eq!(rt; number_given(Slotted::check(&[1_000_000, 0])), 0);
+    assert_eq!(rt; number_given(Slotted::check(&[1_000_000, 1])), 5);
     let mut flow = Slotted::build(&[1_000_000, 1]);
     assert!(rt; shows(flow.pair(), &[0], &[0]));
     assert!(rt; hands_over(&mut flow, &[0, 0, 0]));

@@ -13,7 +13,8 @@ use Rattle.courses.proofs.Serving.{server_bounds, server_passed, server_rest}
 use Rattle.courses.proofs.Steps.{serves, served_sum}
 use Rattle.flows.specs.Views.{Fine}
 use Rattle.flows.specs.declared.flow.Flow.{Ghosts}
-use Rattle.stages.specs.Servers.{server_figures, fits}
+use Rattle.stages.specs.ServerViews.{server_figures}
+use Rattle.stages.specs.Servers.{fits}
 use Rattle.stages.proofs.Opens.{first_few}
 
 -- bounds that the tables answer are those of their settling length
@@ -35,7 +36,7 @@ pub moved : {m n l k a : ℕ → ℕ} → m ≡ n → l ≡ k → Keeps n k a �
 moved {m} {n} {l} {k} {a} em el K = subst (λ (f : ℕ → ℕ). Keeps f l a) (sym em) (subst (λ (f : ℕ → ℕ). Keeps n f a) (sym el) K)
 
 module _ {X Y : Type 0} (E : Ghosts X) (S : Ghosts Y) (x : X) (y : Y) (b : ServerBounds) where
-  pub open_fine : E.sound x → S.sound y → Ok (serving b) ≡ fits E S x y
+  pub open_fine : Ok (serving b) ≡ fits E S x y
       → Settles (E.pair x).most.frame (at (E.pair x).most) (at (S.pair y).least) b.settling
       → Shortest b.settling (at (E.pair x).most) (at (S.pair y).least) b.delay
       → Fine (record {
@@ -47,7 +48,7 @@ module _ {X Y : Type 0} (E : Ghosts X) (S : Ghosts Y) (x : X) (y : Y) (b : Serve
         bounds = server_figures b;
       })
   unfolding served server_after
-  open_fine se ss fit settles shortest =
+  open_fine fit settles shortest =
       let pe = E.pair x in
       let ps = S.pair y in
       let a = E.course x in
@@ -56,8 +57,8 @@ module _ {X Y : Type 0} (E : Ghosts X) (S : Ghosts Y) (x : X) (y : Y) (b : Serve
       let D = b.settling in
       let d = b.delay in
       let N = pe.most.frame in
-      let K = E.keeps x se in
-      let L = S.keeps y ss in
+      let K = E.keeps x in
+      let L = S.keeps y in
       let is : serving b ≡ settled (curves pe) (curves ps) D = settled_as (curves pe) (curves ps) (serving b) fit in
       let hold : (T : ℕ) → Bounds T D (at pe.most) (at ps.least) _ _ a p = λ T. server_bounds D (K.to T) (L.to T) (serves T a c) settles.some settles.settled in
       record {

@@ -1,5 +1,6 @@
 -- What a tick of a server does, from what the two draws below it do.
-use Rattle.std.proofs.Common.{◌≡◌, ℕ, ◌+◌, ◌-◌, ◌≤◌, min, true, ◌∷◌, ◌++◌, map, sym, refl, ap, ◌∙◌, subst, arith}
+use Rattle.std.proofs.Common.{◌≡◌, ℕ, ◌+◌, ◌-◌, ◌≤◌, min, Some, None, Option, ◌∷◌, ◌++◌, map, sym, refl, ap, ◌∙◌, subst, arith}
+use Rattle.std.specs.Option.{unwrap_or}
 use Rattle.std.proofs.lemmas.List.{map-append}
 use Rattle.tables.specs.Tables.{at}
 use Rattle.courses.specs.Courses.{rest}
@@ -8,10 +9,11 @@ use Rattle.courses.proofs.Steps.{served_later, server_after_later}
 use Rattle.flows.specs.Views.{Fine, All, tail, next_view}
 use Rattle.flows.specs.declared.flow.Flow.{Ghosts}
 use Rattle.flows.proofs.Views.{later_tail, all_next}
-use Rattle.stages.specs.Opens.{open_course, open_count, open_views}
-use Rattle.stages.specs.Servers.{arrival, passing, resting, queue, server_view, server_views, server_figures, ServerSound, ServerTicked}
+use Rattle.tables.specs.declared.bounds.ServerBounds.{ServerBounds}
+use Rattle.stages.specs.ServerViews.{serving_view, serving_below, serving_views, server_figures}
+use Rattle.stages.specs.Servers.{server_view, server_below, ServerTicked}
 use Rattle.stages.specs.declared.server.Server.{Server}
-use Rattle.stages.proofs.Opens.{Drawn, open_tail, open_next, open_at}
+use Rattle.stages.proofs.Opens.{Drawn}
 
 -- the courses of a server one tick on
 module _ (w : ℕ) (a c : ℕ → ℕ) where
@@ -26,56 +28,57 @@ module _ (w : ℕ) (a c : ℕ → ℕ) where
   after_tail = (λ i. server_after (sym after_one i) (sym (later_tail a) i) (sym (later_tail c) i)) ∙ server_after_later w a c 1 ∙ later_tail (server_after w a c)
 
 module _ {X Y : Type 0} (E : Ghosts X) (S : Ghosts Y) where
-  pub ticked : (s t : Server X Y E S) (a c p : ℕ) → ServerSound E S s
-      → Drawn E s.events a t.events → Drawn S s.service c t.service
-      → p ≡ min (s.waiting + a) c → t.waiting ≡ (s.waiting + a) - p
-      → t.bounds ≡ s.bounds → t.is_open ≡ s.is_open → s.is_open ≡ true
+  -- an open server with w waiting, one tick on: a came, and p passed
+  module _ (x x' : X) (y y' : Y) (b : ServerBounds) (w a c p : ℕ) (de : Drawn E x a x') (ds : Drawn S y c y') (hp : p ≡ min (w + a) c) where
+    pub next : serving_view E S (Some ((w + a) - p)) x' y' b ≡ next_view (serving_view E S (Some w) x y b)
+    next =
+        let f : ℕ → ℕ = E.course x in
+        let k : ℕ → ℕ = S.course y in
+        let ew : (w + a) - p ≡ server_next w (f 0) (k 0) = omega (arith, de.count, ds.count, hp) in
+        let np : served ((w + a) - p) (E.course x') (S.course y') ≡ tail (served w f k) = (λ i. served (ew i) (de.next i) (ds.next i)) ∙ served_tail w f k in
+        λ i. record {
+          arrived = de.next i;
+          passed = np i;
+          rest = rest (ds.next i) (np i);
+          waits = ((λ j. server_after (ew j) (de.next j) (ds.next j)) ∙ after_tail w f k) i;
+          arriving = at (de.same i).most 1;
+          bounds = server_figures b;
+        }
+
+    pub next_below : serving_below E S (Some ((w + a) - p)) x' y' ≡ map next_view (serving_below E S (Some w) x y)
+    next_below = (λ i. de.views i ++ ds.views i) ∙ sym (map-append next_view (E.views x) (S.views y))
+
+    pub next_fine : All Fine (serving_views E S (Some w) x y b) → All Fine (serving_views E S (Some ((w + a) - p)) x' y' b)
+    next_fine h = subst (All Fine) (λ i. sym next i ∷ sym next_below i) (all_next (serving_views E S (Some w) x y b) h)
+
+  pub ticked : (s t : Server X Y E S) (w a c p : ℕ) → s.waiting ≡ Some w → t.waiting ≡ Some ((w + a) - p)
+      → Drawn E s.events a t.events → Drawn S s.service c t.service → p ≡ min (w + a) c → t.bounds ≡ s.bounds
       → ServerTicked E S s t p (c - p)
   unfolding served server_after
-  ticked s t a c p h de ds hp hw hb ho is =
-      let f : ℕ → ℕ = E.course s.events in
-      let k : ℕ → ℕ = S.course s.service in
-      let w : ℕ = s.waiting in
-      let ew : t.waiting ≡ server_next w (f 0) (k 0) = omega (arith, de.count, ds.count, hp, hw) in
-      let np : passing E S t ≡ tail (passing E S s) =
-      (λ i. open_course (ho i) (served (ew i) (de.next i) (ds.next i))) ∙ open_tail s.is_open (served (server_next w (f 0) (k 0)) (tail f) (tail k)) (served w f k) (served_tail w f k) in
-      let nr : resting E S t ≡ tail (resting E S s) =
-      (λ i. open_course (ho i) (rest (ds.next i) (served (ew i) (de.next i) (ds.next i))))
-      ∙ open_tail s.is_open (rest (tail k) (served (server_next w (f 0) (k 0)) (tail f) (tail k))) (rest k (served w f k)) (ap (rest (tail k)) (served_tail w f k)) in
-      let nq : queue E S t ≡ tail (queue E S s) =
-      (λ i. open_course (ho i) (server_after (ew i) (de.next i) (ds.next i))) ∙ open_tail s.is_open (server_after (server_next w (f 0) (k 0)) (tail f) (tail k)) (server_after w f k) (after_tail w f k) in
-      let na : arrival E S t ≡ tail (arrival E S s) =
-      (λ i. open_course (ho i) (de.next i)) ∙ open_tail s.is_open (tail f) f refl in
-      let below : E.views t.events ++ S.views t.service ≡ map next_view (E.views s.events ++ S.views s.service) =
-      (λ i. de.views i ++ ds.views i) ∙ sym (map-append next_view (E.views s.events) (S.views s.service)) in
-      let vs : open_views t.is_open (E.views t.events ++ S.views t.service) ≡ map next_view (open_views s.is_open (E.views s.events ++ S.views s.service)) =
-      ap (λ b. open_views b (E.views t.events ++ S.views t.service)) ho ∙ open_next s.is_open _ _ below in
+  ticked s t w a c p is it de ds hp hb =
+      let x = s.events in
+      let y = s.service in
+      let f : ℕ → ℕ = E.course x in
+      let k : ℕ → ℕ = S.course y in
       let top : server_view E S t ≡ next_view (server_view E S s) =
-      λ i. record {
-        arrived = na i;
-        passed = np i;
-        rest = nr i;
-        waits = nq i;
-        arriving = open_count (ho i) (at (de.same i).most 1);
-        bounds = server_figures (hb i);
-      } in
-      let all : server_views E S t ≡ map next_view (server_views E S s) = λ i. top i ∷ vs i in
+      (λ i. serving_view E S (it i) t.events t.service (hb i)) ∙ next x t.events y t.service s.bounds w a c p de ds hp ∙ ap (λ o. next_view (serving_view E S o x y s.bounds)) (sym is) in
+      let below : server_below E S t ≡ map next_view (server_below E S s) =
+      ap (λ o. serving_below E S o t.events t.service) it ∙ next_below x t.events y t.service s.bounds w a c p de ds hp ∙ ap (λ o. map next_view (serving_below E S o x y)) (sym is) in
       record {
-        passed = open_at (served w f k) 0 p is (omega (arith, de.count, ds.count, hp));
-        rest = open_at (rest k (served w f k)) 0 (c - p) is (omega (arith, de.count, ds.count, hp));
-        next = np;
-        next_rest = nr;
+        passed = subst (λ o. p ≡ (serving_view E S o x y s.bounds).passed 0) (sym is) (omega (arith, de.count, ds.count, hp));
+        rest = subst (λ o. c - p ≡ (serving_view E S o x y s.bounds).rest 0) (sym is) (omega (arith, de.count, ds.count, hp));
+        next = ap (λ v. v.passed) top;
+        next_rest = ap (λ v. v.rest) top;
         same = hb;
         top = top;
-        views = all;
-        sound = record {
-          events = de.sound;
-          service = ds.sound;
-          fine = subst (All Fine) (sym all) (all_next (server_views E S s) h.fine);
-        };
+        views = λ i. top i ∷ below i;
       }
 
   -- what an open server has waiting is within its wait
-  pub held : (s : Server X Y E S) → ServerSound E S s → s.is_open ≡ true → s.waiting ≤ s.bounds.wait
+  pub held : (s : Server X Y E S) (w : ℕ) → s.waiting ≡ Some w → w ≤ s.bounds.wait
   unfolding server_after
-  held s h is = omega (arith, h.fine.0.within 0, open_at (server_after s.waiting (E.course s.events) (S.course s.service)) 0 s.waiting is refl)
+  held s w is = subst (λ o. unwrap_or o 0 ≤ s.bounds.wait) is (waits s.waiting refl)
+    where
+      waits : (o : Option ℕ) → s.waiting ≡ o → unwrap_or o 0 ≤ s.bounds.wait
+      waits None e = omega arith
+      waits (Some v) e = omega (arith, s.fine.0.within 0, ap (λ o. (serving_view E S o s.events s.service s.bounds).waits 0) e)

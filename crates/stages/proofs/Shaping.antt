@@ -1,6 +1,7 @@
 -- What a tick of a shaper does, and that a shaper whose bounds are those of the tables keeps them.
-use Rattle.std.proofs.Common.{◌≡◌, ℕ, ◌+◌, ◌-◌, ◌≤◌, min, Bool, true, false, cond, eqb, leb, ◌∷◌, map, take, Ok, Err, sum as total, sym, refl, ap, ◌∙◌, subst, arith}
+use Rattle.std.proofs.Common.{◌≡◌, ℕ, ◌+◌, ◌-◌, ◌≤◌, min, Bool, true, false, cond, eqb, leb, List, ◌∷◌, map, take, Some, None, Ok, Err, Option, sum as total, sym, refl, ap, ◌∙◌, subst, arith}
 use Rattle.std.proofs.lemmas.Bool.{leb-true, eqb-true}
+use Rattle.std.specs.Option.{unwrap_or}
 use Rattle.tables.specs.Bounds as bounds
 use Rattle.tables.specs.Bounds.{shaping, shaped_pair, shaper_answer}
 use Rattle.tables.specs.Curves.{Graph, Shortest, convolved, excess, growth, repeated, subadditive}
@@ -18,11 +19,11 @@ use Rattle.courses.proofs.Steps.{shapes, shaped_sum, shaped_later, shaper_after_
 use Rattle.flows.specs.Views.{Fine, All, tail, next_view}
 use Rattle.flows.specs.declared.flow.Flow.{Ghosts}
 use Rattle.flows.proofs.Views.{later_tail, all_next}
-use Rattle.stages.specs.Opens.{open_course, open_count, open_views}
-use Rattle.stages.specs.Shapers.{state, shaper_arrival, shaping_course, shaper_queue, shaper_view, shaper_views, shaper_figures, shaper_fits, ShaperSound, ShaperTicked}
+use Rattle.stages.specs.ShaperViews.{shaping_state, shaping_view, shaping_below, shaping_views, shaper_figures}
+use Rattle.stages.specs.Shapers.{shaper_view, shaper_below, shaper_fits, ShaperTicked}
 use Rattle.stages.specs.declared.shaper.Shaper.{Shaper}
 use Rattle.stages.proofs.Fitting.{moved}
-use Rattle.stages.proofs.Opens.{Drawn, first_few, open_tail, open_next, open_at}
+use Rattle.stages.proofs.Opens.{Drawn, first_few}
 
 -- the courses of a shaper one tick on
 module _ (N : ℕ) (h : ℕ → ℕ) (s : Shaping) (a : ℕ → ℕ) where
@@ -68,7 +69,7 @@ fitted e h r = by (eqb e.frame h.frame) (subadditive h.frame h.count) (leb (e.mo
     by false rule enough s u l fit = let z : ◌≡◌ {A = ℕ} 0 1 = cc in absurd (omega arith)
 
 module _ {X : Type 0} (E : Ghosts X) where
-  pub shaper_fine : (x : X) (h : Table) (b : ShaperBounds) → E.sound x → Ok (shaping b) ≡ shaper_fits E x h
+  pub shaper_fine : (x : X) (h : Table) (b : ShaperBounds) → Ok (shaping b) ≡ shaper_fits E x h
       → Shortest (E.pair x).most.frame (at (E.pair x).most) (at h) b.delay
       → Fine (record {
         arrived = E.course x;
@@ -79,12 +80,12 @@ module _ {X : Type 0} (E : Ghosts X) where
         bounds = shaper_figures b;
       })
   unfolding shaped shaper_after
-  shaper_fine x h b se fit shortest =
+  shaper_fine x h b fit shortest =
       let pe = E.pair x in
       let a = E.course x in
       let N = h.frame in
       let p = shaped N (at h) empty a in
-      let K = E.keeps x se in
+      let K = E.keeps x in
       let F = fitted (curves pe) (curve h) (shaping b) fit in
       let again = at_repeats h in
       let rule : subadditive N (repeated N (at h)) ≡ true = ap (subadditive N) again ∙ F.rule in
@@ -106,49 +107,62 @@ module _ {X : Type 0} (E : Ghosts X) where
             omega (arith, (hold (t + d)).out d (λ k l. omega (arith, shortest.enough k (omega (arith, F.frame)), ap (λ (f : ℕ → ℕ). f (k + d)) again)) t (omega arith));
       }
 
-  pub ticked : (s t : Shaper X E) (a p : ℕ) → ShaperSound E s → Drawn E s.events a t.events
-      → p ≡ min (s.waiting + a) (smallest (s.shaping.frame - 1) (λ k. at s.shaping (k + 1) - total (take k s.past)))
-      → t.waiting ≡ (s.waiting + a) - p → t.past ≡ p ∷ take 63 s.past
-      → t.shaping ≡ s.shaping → t.bounds ≡ s.bounds → t.is_open ≡ s.is_open → s.is_open ≡ true
-      → ShaperTicked E s t p
-  unfolding shaped shaper_after
-  ticked s t a p h de hp hw hq hh hb ho is =
-      let f : ℕ → ℕ = E.course s.events in
-      let N = s.shaping.frame in
-      let H = at s.shaping in
-      let st = state E s in
-      let same : p ≡ shape N H st (f 0) = hp ∙ ap (λ x. min (s.waiting + x) (smallest (N - 1) (λ k. H (k + 1) - total (take k s.past)))) de.count in
-      let waits : t.waiting ≡ (shaper_next N H st (f 0)).backlog = hw ∙ (λ i. (s.waiting + de.count i) - same i) in
-      let es : state E t ≡ shaper_next N H st (f 0) = λ i. record { backlog = waits i; past = (hq ∙ ap (λ x. x ∷ take 63 s.past) same) i } in
-      let np : shaping_course E t ≡ tail (shaping_course E s) =
-      (λ i. open_course (ho i) (shaped (hh i).frame (at (hh i)) (es i) (de.next i))) ∙ open_tail s.is_open (shaped N H (shaper_next N H st (f 0)) (tail f)) (shaped N H st f) (shaped_tail N H st f) in
-      let lengths : (ℕ → Shaping) → ℕ → ℕ = λ g n. (g n).backlog in
-      let nq : shaper_queue E t ≡ tail (shaper_queue E s) =
-      (λ i. open_course (ho i) (λ n. (shaper_after (hh i).frame (at (hh i)) (es i) (de.next i) n).backlog))
-      ∙ open_tail s.is_open (λ n. (shaper_after N H (shaper_next N H st (f 0)) (tail f) n).backlog) (λ n. (shaper_after N H st f n).backlog) (ap lengths (after_tail N H st f)) in
-      let na : shaper_arrival E t ≡ tail (shaper_arrival E s) = (λ i. open_course (ho i) (de.next i)) ∙ open_tail s.is_open (tail f) f refl in
-      let vs : open_views t.is_open (E.views t.events) ≡ map next_view (open_views s.is_open (E.views s.events)) =
-      ap (λ b. open_views b (E.views t.events)) ho ∙ open_next s.is_open _ _ de.views in
+  -- an open shaper with w waiting, one tick on: a came, and p passed
+  module _ (x x' : X) (h : Table) (b : ShaperBounds) (past : List ℕ) (w a p : ℕ) (de : Drawn E x a x')
+      (hp : p ≡ min (w + a) (smallest (h.frame - 1) (λ k. at h (k + 1) - total (take k past)))) where
+    abbrev now : Shaping
+    now = shaping_state (Some w) past
+
+    same : p ≡ shape h.frame (at h) now (E.course x 0)
+    same = hp ∙ ap (λ n. min (w + n) (smallest (h.frame - 1) (λ k. at h (k + 1) - total (take k past)))) de.count
+
+    then : shaping_state (Some ((w + a) - p)) (p ∷ take 63 past) ≡ shaper_next h.frame (at h) now (E.course x 0)
+    then = λ i. record { backlog = (w + de.count i) - same i; past = same i ∷ take 63 past }
+
+    pub next : shaping_view E (Some ((w + a) - p)) (p ∷ take 63 past) x' h b ≡ next_view (shaping_view E (Some w) past x h b)
+    next =
+        let f : ℕ → ℕ = E.course x in
+        let backlogs : (ℕ → Shaping) → ℕ → ℕ = λ g n. (g n).backlog in
+        λ i. record {
+          arrived = de.next i;
+          passed = ((λ j. shaped h.frame (at h) (then j) (de.next j)) ∙ shaped_tail h.frame (at h) now f) i;
+          rest = λ _. 0;
+          waits = ((λ j. backlogs (shaper_after h.frame (at h) (then j) (de.next j))) ∙ ap backlogs (after_tail h.frame (at h) now f)) i;
+          arriving = at (de.same i).most 1;
+          bounds = shaper_figures b;
+        }
+
+    pub next_fine : All Fine (shaping_views E (Some w) past x h b) → All Fine (shaping_views E (Some ((w + a) - p)) (p ∷ take 63 past) x' h b)
+    next_fine f = subst (All Fine) (λ i. sym next i ∷ sym de.views i) (all_next (shaping_views E (Some w) past x h b) f)
+
+    pub first_passed : p ≡ (shaping_view E (Some w) past x h b).passed 0
+    unfolding shaped shaper_after
+    first_passed = same
+
+  pub ticked : (s t : Shaper X E) (w a p : ℕ) → s.waiting ≡ Some w → t.waiting ≡ Some ((w + a) - p) → t.past ≡ p ∷ take 63 s.past
+      → Drawn E s.events a t.events → p ≡ min (w + a) (smallest (s.shaping.frame - 1) (λ k. at s.shaping (k + 1) - total (take k s.past)))
+      → t.shaping ≡ s.shaping → t.bounds ≡ s.bounds → ShaperTicked E s t p
+  ticked s t w a p is it hq de hp hh hb =
+      let x = s.events in
+      let h = s.shaping in
+      let b = s.bounds in
       let top : shaper_view E t ≡ next_view (shaper_view E s) =
-      λ i. record {
-        arrived = na i;
-        passed = np i;
-        rest = λ _. 0;
-        waits = nq i;
-        arriving = open_count (ho i) (at (de.same i).most 1);
-        bounds = shaper_figures (hb i);
-      } in
-      let all : shaper_views E t ≡ map next_view (shaper_views E s) = λ i. top i ∷ vs i in
+      (λ i. shaping_view E (it i) (hq i) t.events (hh i) (hb i)) ∙ next x t.events h b s.past w a p de hp ∙ ap (λ o. next_view (shaping_view E o s.past x h b)) (sym is) in
+      let below : shaper_below E t ≡ map next_view (shaper_below E s) =
+      ap (λ o. shaping_below E o t.events) it ∙ de.views ∙ ap (λ o. map next_view (shaping_below E o x)) (sym is) in
       record {
-        passed = open_at (shaped N H st f) 0 p is same;
-        next = np;
+        passed = subst (λ o. p ≡ (shaping_view E o s.past x h b).passed 0) (sym is) (first_passed x t.events h b s.past w a p de hp);
+        next = ap (λ v. v.passed) top;
         same = hb;
         top = top;
-        views = all;
-        sound = record { events = de.sound; fine = subst (All Fine) (sym all) (all_next (shaper_views E s) h.fine) };
+        views = λ i. top i ∷ below i;
       }
 
   -- what an open shaper has waiting is within its wait
-  pub held : (s : Shaper X E) → ShaperSound E s → s.is_open ≡ true → s.waiting ≤ s.bounds.wait
+  pub held : (s : Shaper X E) (w : ℕ) → s.waiting ≡ Some w → w ≤ s.bounds.wait
   unfolding shaper_after
-  held s h is = omega (arith, h.fine.0.within 0, open_at (λ t. (shaper_after s.shaping.frame (at s.shaping) (state E s) (E.course s.events) t).backlog) 0 s.waiting is refl)
+  held s w is = subst (λ o. unwrap_or o 0 ≤ s.bounds.wait) is (waits s.waiting refl)
+    where
+      waits : (o : Option ℕ) → s.waiting ≡ o → unwrap_or o 0 ≤ s.bounds.wait
+      waits None e = omega arith
+      waits (Some v) e = omega (arith, s.fine.0.within 0, ap (λ o. (shaping_view E o s.past s.events s.shaping s.bounds).waits 0) e)

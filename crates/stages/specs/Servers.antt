@@ -1,21 +1,14 @@
 -- A server over two flows, of which only the promises are known.
-use Rattle.std.specs.Prelude.{◌≡◌, ℕ, List, ◌∷◌, ◌++◌, map, is_ok, Some, Ok, Err, Result}
+use Rattle.std.specs.Prelude.{◌≡◌, ℕ, List, map, Ok, Err, Result}
 use Rattle.tables.specs.Bounds.{Serving, serving, server_answer}
-use Rattle.tables.specs.Tables.{at, curves, paired}
+use Rattle.tables.specs.Tables.{curves, paired}
 use Rattle.tables.specs.declared.bounds.ServerBounds.{ServerBounds}
-use Rattle.tables.specs.declared.bounds.StageKind.TheVariants.{Server as ServerKind}
 use Rattle.tables.specs.declared.refusal.Refusal.{Refusal}
-use Rattle.courses.specs.Courses.{rest}
-use Rattle.courses.specs.Steps.{server_after, served}
-use Rattle.flows.specs.Views.{View, Fine, All, tail, next_view}
-use Rattle.flows.specs.declared.bounds.StageBounds.{StageBounds}
+use Rattle.flows.specs.Views.{View, tail, next_view}
 use Rattle.flows.specs.declared.flow.Flow.{Ghosts}
-use Rattle.stages.specs.Opens.{open_course, open_count, open_views}
+use Rattle.stages.specs.Opens.{where_open}
+use Rattle.stages.specs.ServerViews.{serving_view, serving_below, serving_views}
 use Rattle.stages.specs.declared.server.Server.{Server}
-
--- the bounds that are printed of a server
-abbrev pub server_figures : ServerBounds → StageBounds
-server_figures b = record { kind = ServerKind; wait = b.wait; delay = b.delay; pair = b.passed; rest = Some b.rest }
 
 -- the bounds of a closed server of frame n
 abbrev pub closed_serving : ℕ → Serving
@@ -26,44 +19,31 @@ serving_or_closed n (Ok b) = b
 serving_or_closed n (Err e) = closed_serving n
 
 module _ {X Y : Type 0} (E : Ghosts X) (S : Ghosts Y) where
+  abbrev pub server_view : Server X Y E S → View
+  server_view s = serving_view E S s.waiting s.events s.service s.bounds
+
   -- what comes in each coming tick: events, and places for them
   abbrev pub arrival : Server X Y E S → ℕ → ℕ
-  arrival s = open_course s.is_open (E.course s.events)
+  arrival s = (server_view s).arrived
 
-  -- what it passes, by its rule from what waits and the courses below
+  -- what it passes
   abbrev pub passing : Server X Y E S → ℕ → ℕ
-  passing s = open_course s.is_open (served s.waiting (E.course s.events) (S.course s.service))
+  passing s = (server_view s).passed
 
   -- what it leaves of the service
   abbrev pub resting : Server X Y E S → ℕ → ℕ
-  resting s = open_course s.is_open (rest (S.course s.service) (served s.waiting (E.course s.events) (S.course s.service)))
+  resting s = (server_view s).rest
 
   -- what waits after each number of ticks
   abbrev pub queue : Server X Y E S → ℕ → ℕ
-  queue s = open_course s.is_open (server_after s.waiting (E.course s.events) (S.course s.service))
-
-  abbrev pub server_view : Server X Y E S → View
-  server_view s = record {
-    arrived = arrival s;
-    passed = passing s;
-    rest = resting s;
-    waits = queue s;
-    arriving = open_count s.is_open (at (E.pair s.events).most 1);
-    bounds = server_figures s.bounds;
-  }
+  queue s = (server_view s).waits
 
   -- the stages below, and all from this one down
   abbrev pub server_below : Server X Y E S → List View
-  server_below s = open_views s.is_open (E.views s.events ++ S.views s.service)
+  server_below s = serving_below E S s.waiting s.events s.service
 
   abbrev pub server_views : Server X Y E S → List View
-  server_views s = server_view s ∷ server_below s
-
-  -- what each state that can be reached has
-  pub record ServerSound (s : Server X Y E S) : Type 0 where
-    pub events : E.sound s.events
-    pub service : S.sound s.service
-    pub fine : All Fine (server_views s)
+  server_views s = serving_views E S s.waiting s.events s.service s.bounds
 
   -- the answer of the tables to the pairs of two flows
   abbrev pub fits : X → Y → Result Serving Refusal
@@ -73,8 +53,7 @@ module _ {X Y : Type 0} (E : Ghosts X) (S : Ghosts Y) where
   pub record ServerBuilt (e : X) (s : Y) (r : Server X Y E S) : Type 0 where
     pub events : r.events ≡ e
     pub service : r.service ≡ s
-    pub idle : r.waiting ≡ 0
-    pub opens : r.is_open ≡ is_ok (fits e s)
+    pub waiting : r.waiting ≡ where_open (fits e s) 0
     pub bounds : serving r.bounds ≡ serving_or_closed (E.pair e).most.frame (fits e s)
 
   -- a tick from s to t that passes p and leaves r
@@ -86,4 +65,3 @@ module _ {X Y : Type 0} (E : Ghosts X) (S : Ghosts Y) where
     pub same : t.bounds ≡ s.bounds
     pub top : server_view t ≡ next_view (server_view s)
     pub views : server_views t ≡ map next_view (server_views s)
-    pub sound : ServerSound t

@@ -1,6 +1,7 @@
 // Servers, shapers and joins over flows.
 #![tactic(auto)]
 
+mod below;
 mod join;
 mod rest;
 mod server;

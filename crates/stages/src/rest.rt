@@ -1,5 +1,5 @@
 // What a server leaves of its service.
-ghost use Rattle.stages.specs.Servers.{resting, server_views, ServerSound};
+ghost use Rattle.stages.specs.Servers.{resting, server_views};
 
 use crate::server::Server;
 use flows::{Flow, StageBounds};
@@ -10,17 +10,15 @@ use tables::Pair;
 pub struct Rest<E: Flow + Drop, S: Flow + Drop>(pub Server<E, S>);
 
 impl<E: Flow + Drop, S: Flow + Drop> Flow for Rest<E, S> {
-    ghost sound = { λ s. ServerSound E.Flow S.Flow s.0 };
-
     ghost pair = { λ s. s.0.bounds.rest };
 
     ghost course = { λ s. resting E.Flow S.Flow s.0 };
 
     ghost views = { λ s. server_views E.Flow S.Flow s.0 };
 
-    ghost keeps = { λ s h. h.fine.0.rests };
+    ghost keeps = { λ s. s.0.fine.0.rests };
 
-    ghost viewed = { λ s h. h.fine };
+    ghost viewed = { λ s. s.0.fine };
 
     fn pair(&self) -> &Pair {
         self.0.rest_pair()

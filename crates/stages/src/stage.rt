@@ -22,13 +22,11 @@ pub trait Stage: Flow {
 
     /// One tick.
     fn step(&mut self) -> Counts
-        requires { Self.Flow.sound self.old }
         ensures arrived { result.arrived ≡ (top self.old).arrived 0 }
         ensures passed { result.passed ≡ (top self.old).passed 0 }
         ensures waiting { result.waiting ≡ (top self.old).waits 1 }
         ensures top { top self.new ≡ next_view (top self.old) }
-        ensures views { Self.Flow.views self.new ≡ map next_view (Self.Flow.views self.old) }
-        ensures sound { Self.Flow.sound self.new };
+        ensures views { Self.Flow.views self.new ≡ map next_view (Self.Flow.views self.old) };
 
     /// What waits.
     fn waiting(&self) -> u32

@@ -1,8 +1,10 @@
 ghost use Rattle.std.specs.Prelude.{◌≡◌, ℕ, refl};
 ghost use Rattle.flows.specs.Views.{look};
-ghost use Rattle.stages.specs.Joins.{joining, join_figures, join_view, join_below, join_views, JoinSound, JoinTicked};
+ghost use Rattle.stages.specs.JoinViews.{join_figures};
+ghost use Rattle.stages.specs.Joins.{joining, join_view, join_below, join_views, JoinTicked};
 
 use super::Join;
+use crate::below::bounds_below;
 use crate::stage::{Counts, Stage};
 use flows::{Flow, StageBounds};
 use tables::{Pair, StageKind};
@@ -10,7 +12,6 @@ use tables::{Pair, StageKind};
 impl<A: Flow + Drop, B: Flow + Drop> Join<A, B> {
     /// One tick: what the two flows handed over together.
     pub fn tick(&mut self) -> u32
-        requires { JoinSound A.Flow B.Flow self.old }
         ensures { JoinTicked A.Flow B.Flow self.old self.new result }
     {
         if !self.is_open {
@@ -43,25 +44,20 @@ impl<A: Flow + Drop, B: Flow + Drop> Join<A, B> {
         if !self.is_open {
             return Err(place - 1);
         }
-        match self.left.bounds(place - 1) {
-            Ok(bounds) => Ok(bounds),
-            Err(past) => self.right.bounds(past),
-        }
+        bounds_below(&self.left, &self.right, place - 1)
     }
 }
 
 impl<A: Flow + Drop, B: Flow + Drop> Flow for Join<A, B> {
-    ghost sound = { JoinSound A.Flow B.Flow };
-
     ghost pair = { λ s. s.pair };
 
     ghost course = { joining A.Flow B.Flow };
 
     ghost views = { join_views A.Flow B.Flow };
 
-    ghost keeps = { λ s h. h.fine.0.keeps };
+    ghost keeps = { λ s. s.fine.0.keeps };
 
-    ghost viewed = { λ s h. h.fine };
+    ghost viewed = { λ s. s.fine };
 
     fn pair(&self) -> &Pair {
         &self.pair

@@ -1,32 +1,27 @@
-ghost use Rattle.std.specs.Prelude.{◌≡◌, ℕ, false};
+ghost use Rattle.std.specs.Prelude.{◌≡◌, ℕ, None};
 ghost use Rattle.tables.specs.Bounds.{serving};
-ghost use Rattle.flows.specs.Checks.{number_given};
+ghost use Rattle.flows.specs.Checks.{verdict};
 ghost use Rattle.flows.specs.Views.{All, Idle};
-ghost use Rattle.stages.specs.Servers.{closed_serving, fits, server_views, ServerSound, ServerBuilt};
+ghost use Rattle.stages.specs.Servers.{closed_serving, fits, server_views, ServerBuilt};
 
 use super::Server;
 use flows::Flow;
-use tables::{ServerBounds, server_bounds};
+use tables::{Refusal, ServerBounds, server_bounds};
 
 impl<E: Flow + Drop, S: Flow + Drop> Server<E, S> {
-    /// 0, or the number of the refusal.
-    pub fn check(events: &E, service: &S) -> u8
-        ensures { result ≡ number_given (fits E.Flow S.Flow events.now service.now) }
+    /// `Frame` where the frames differ, `Overload` where there is no settling length.
+    pub fn check(events: &E, service: &S) -> Result<(), Refusal>
+        ensures { result ≡ verdict (fits E.Flow S.Flow events.now service.now) }
     {
-        match server_bounds(events.pair(), service.pair()) {
-            Ok(_) => 0,
-            Err(refusal) => refusal.number(),
-        }
+        server_bounds(events.pair(), service.pair())?;
+        Ok(())
     }
 
     /// A server over two flows from which nothing was drawn; closed where the check refuses.
     pub fn build(events: E, service: S) -> Server<E, S>
-        requires events { E.Flow.sound events }
-        requires service { S.Flow.sound service }
         requires fresh { All Idle (E.Flow.views events) }
         requires idle { All Idle (S.Flow.views service) }
         ensures built { ServerBuilt E.Flow S.Flow events service result }
-        ensures sound { ServerSound E.Flow S.Flow result }
         ensures fresh { All Idle (server_views E.Flow S.Flow result) }
     {
         let Ok(bounds) = server_bounds(events.pair(), service.pair()) else {
@@ -35,9 +30,8 @@ impl<E: Flow + Drop, S: Flow + Drop> Server<E, S> {
         Server {
             events,
             service,
-            waiting: 0,
+            waiting: Some(0),
             bounds,
-            is_open: true,
         }
     }
 
@@ -45,9 +39,9 @@ impl<E: Flow + Drop, S: Flow + Drop> Server<E, S> {
     fn closed(events: E, service: S) -> Server<E, S>
         ensures events { result.events ≡ events }
         ensures service { result.service ≡ service }
-        ensures idle { result.waiting ≡ 0 }
-        ensures opens { result.is_open ≡ false }
+        ensures waiting { result.waiting ≡ None }
         ensures bounds { serving result.bounds ≡ closed_serving (E.Flow.pair events).most.frame }
+        ensures fresh { All Idle (server_views E.Flow S.Flow result) }
     {
         let zero = events.pair().zero_like();
         let bounds = ServerBounds {
@@ -60,9 +54,8 @@ impl<E: Flow + Drop, S: Flow + Drop> Server<E, S> {
         Server {
             events,
             service,
-            waiting: 0,
+            waiting: None,
             bounds,
-            is_open: false,
         }
     }
 }

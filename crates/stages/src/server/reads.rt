@@ -1,8 +1,10 @@
 ghost use Rattle.std.specs.Prelude.{◌≡◌, ℕ};
 ghost use Rattle.flows.specs.Views.{look};
-ghost use Rattle.stages.specs.Servers.{queue, server_figures, server_views};
+ghost use Rattle.stages.specs.ServerViews.{server_figures};
+ghost use Rattle.stages.specs.Servers.{queue, server_views};
 
 use super::Server;
+use crate::below::bounds_below;
 use flows::{Flow, StageBounds};
 use tables::{Pair, StageKind};
 
@@ -11,7 +13,7 @@ impl<E: Flow + Drop, S: Flow + Drop> Server<E, S> {
     pub(crate) fn held(&self) -> u32
         ensures { result ≡ queue E.Flow S.Flow self.now 0 }
     {
-        if self.is_open { self.waiting } else { 0 }
+        self.waiting.unwrap_or(0)
     }
 
     pub(crate) fn own_bounds(&self) -> StageBounds
@@ -33,13 +35,10 @@ impl<E: Flow + Drop, S: Flow + Drop> Server<E, S> {
         if place == 0 {
             return Ok(self.own_bounds());
         }
-        if !self.is_open {
+        if self.waiting.is_none() {
             return Err(place - 1);
         }
-        match self.events.bounds(place - 1) {
-            Ok(bounds) => Ok(bounds),
-            Err(past) => self.service.bounds(past),
-        }
+        bounds_below(&self.events, &self.service, place - 1)
     }
 
     /// The pair of what it leaves of its service.

@@ -1,5 +1,5 @@
 ghost use Rattle.std.specs.Prelude.{refl};
-ghost use Rattle.stages.specs.Servers.{passing, resting, server_view, server_views, server_below, ServerSound};
+ghost use Rattle.stages.specs.Servers.{passing, server_view, server_views, server_below};
 
 use super::Server;
 use crate::stage::{Counts, Stage};
@@ -7,17 +7,15 @@ use flows::{Flow, StageBounds};
 use tables::{Pair, StageKind};
 
 impl<E: Flow + Drop, S: Flow + Drop> Flow for Server<E, S> {
-    ghost sound = { ServerSound E.Flow S.Flow };
-
     ghost pair = { λ s. s.bounds.passed };
 
     ghost course = { passing E.Flow S.Flow };
 
     ghost views = { server_views E.Flow S.Flow };
 
-    ghost keeps = { λ s h. h.fine.0.keeps };
+    ghost keeps = { λ s. s.fine.0.keeps };
 
-    ghost viewed = { λ s h. h.fine };
+    ghost viewed = { λ s. s.fine };
 
     fn pair(&self) -> &Pair {
         &self.bounds.passed
@@ -53,10 +51,9 @@ impl<E: Flow + Drop, S: Flow + Drop> Stage for Server<E, S> {
     }
 
     fn arriving(&self) -> u32 {
-        if self.is_open {
-            self.events.pair().most.first()
-        } else {
-            0
+        match self.waiting {
+            Some(_) => self.events.pair().most.first(),
+            None => 0,
         }
     }
 

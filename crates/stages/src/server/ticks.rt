@@ -1,5 +1,5 @@
 ghost use Rattle.std.specs.Prelude.{◌≡◌, ℕ, List};
-ghost use Rattle.stages.specs.Servers.{arrival, passing, resting, queue, server_view, server_views, server_figures, ServerSound, ServerTicked};
+ghost use Rattle.stages.specs.Servers.{arrival, ServerTicked};
 
 use super::Server;
 use flows::{Flow, StageBounds};
@@ -16,22 +16,21 @@ pub struct Served {
 impl<E: Flow + Drop, S: Flow + Drop> Server<E, S> {
     // One tick, events first.
     pub(crate) fn serve(&mut self) -> Served
-        requires { ServerSound E.Flow S.Flow self.old }
         ensures arrived { result.arrived ≡ arrival E.Flow S.Flow self.old 0 }
         ensures ticked { ServerTicked E.Flow S.Flow self.old self.new result.passed result.rest }
     {
-        if !self.is_open {
+        let Some(waiting) = self.waiting else {
             return Served {
                 arrived: 0,
                 passed: 0,
                 rest: 0,
             };
-        }
+        };
         let arrived = self.events.draw();
         let places = self.service.draw();
-        let all = self.waiting + arrived;
+        let all = waiting + arrived;
         let passed = all.min(places);
-        self.waiting = all - passed;
+        self.waiting = Some(all - passed);
         Served {
             arrived,
             passed,
@@ -41,7 +40,6 @@ impl<E: Flow + Drop, S: Flow + Drop> Server<E, S> {
 
     /// One tick: what it passed, and what it left of the service.
     pub fn tick(&mut self) -> (u32, u32)
-        requires { ServerSound E.Flow S.Flow self.old }
         ensures { ServerTicked E.Flow S.Flow self.old self.new result.0 result.1 }
     {
         let served = self.serve();

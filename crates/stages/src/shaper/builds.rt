@@ -1,31 +1,28 @@
-ghost use Rattle.std.specs.Prelude.{◌≡◌, ℕ, false};
+ghost use Rattle.std.specs.Prelude.{◌≡◌, ℕ, None};
 ghost use Rattle.tables.specs.Bounds.{shaping as shaping-of};
 ghost use Rattle.courses.specs.Steps.{empty};
-ghost use Rattle.flows.specs.Checks.{number_given};
+ghost use Rattle.flows.specs.Checks.{verdict};
 ghost use Rattle.flows.specs.Views.{All, Idle};
-ghost use Rattle.stages.specs.Shapers.{closed_shaping, shaper_fits, state, shaper_views, ShaperSound, ShaperBuilt};
+ghost use Rattle.stages.specs.Shapers.{closed_shaping, shaper_fits, state, shaper_views, ShaperBuilt};
 
 use super::Shaper;
 use flows::Flow;
-use tables::{ShaperBounds, Table, shaper_bounds};
+use tables::{Refusal, ShaperBounds, Table, shaper_bounds};
 
 impl<E: Flow + Drop> Shaper<E> {
-    /// 0, or the number of the refusal.
-    pub fn check(events: &E, table: &Table) -> u8
-        ensures { result ≡ number_given (shaper_fits E.Flow events.now table.now) }
+    /// `Frame` where the frames differ, `Shape` where the shaping rule is broken, `Overload` where a frame
+    /// brings more events than the table lets pass.
+    pub fn check(events: &E, table: &Table) -> Result<(), Refusal>
+        ensures { result ≡ verdict (shaper_fits E.Flow events.now table.now) }
     {
-        match shaper_bounds(events.pair(), table) {
-            Ok(_) => 0,
-            Err(refusal) => refusal.number(),
-        }
+        shaper_bounds(events.pair(), table)?;
+        Ok(())
     }
 
     /// A shaper over a flow from which nothing was drawn; closed where the check refuses.
     pub fn build(events: E, table: Table) -> Shaper<E>
-        requires events { E.Flow.sound events }
-        requires fresh { All Idle (E.Flow.views events) }
+        requires { All Idle (E.Flow.views events) }
         ensures built { ShaperBuilt E.Flow events table result }
-        ensures sound { ShaperSound E.Flow result }
         ensures fresh { All Idle (shaper_views E.Flow result) }
     {
         let Ok(bounds) = shaper_bounds(events.pair(), &table) else {
@@ -34,10 +31,9 @@ impl<E: Flow + Drop> Shaper<E> {
         Shaper {
             events,
             shaping: table,
-            waiting: 0,
+            waiting: Some(0),
             past: [0; 64],
             bounds,
-            is_open: true,
         }
     }
 
@@ -45,9 +41,10 @@ impl<E: Flow + Drop> Shaper<E> {
     fn closed(events: E, table: Table) -> Shaper<E>
         ensures events { result.events ≡ events }
         ensures table { result.shaping ≡ table }
+        ensures waiting { result.waiting ≡ None }
         ensures idle { state E.Flow result ≡ empty }
-        ensures opens { result.is_open ≡ false }
         ensures bounds { shaping-of result.bounds ≡ closed_shaping (E.Flow.pair events).most.frame }
+        ensures fresh { All Idle (shaper_views E.Flow result) }
     {
         let passed = events.pair().zero_like();
         let bounds = ShaperBounds {
@@ -58,10 +55,9 @@ impl<E: Flow + Drop> Shaper<E> {
         Shaper {
             events,
             shaping: table,
-            waiting: 0,
+            waiting: None,
             past: [0; 64],
             bounds,
-            is_open: false,
         }
     }
 }

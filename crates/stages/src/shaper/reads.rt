@@ -1,6 +1,7 @@
 ghost use Rattle.std.specs.Prelude.{◌≡◌, ℕ};
 ghost use Rattle.flows.specs.Views.{look};
-ghost use Rattle.stages.specs.Shapers.{shaper_queue, shaper_figures, shaper_views};
+ghost use Rattle.stages.specs.ShaperViews.{shaper_figures};
+ghost use Rattle.stages.specs.Shapers.{shaper_queue, shaper_views};
 
 use super::Shaper;
 use flows::{Flow, StageBounds};
@@ -11,7 +12,7 @@ impl<E: Flow + Drop> Shaper<E> {
     pub(crate) fn held(&self) -> u32
         ensures { result ≡ shaper_queue E.Flow self.now 0 }
     {
-        if self.is_open { self.waiting } else { 0 }
+        self.waiting.unwrap_or(0)
     }
 
     pub(crate) fn own_bounds(&self) -> StageBounds
@@ -33,7 +34,7 @@ impl<E: Flow + Drop> Shaper<E> {
         if place == 0 {
             return Ok(self.own_bounds());
         }
-        if !self.is_open {
+        if self.waiting.is_none() {
             return Err(place - 1);
         }
         self.events.bounds(place - 1)

@@ -1,5 +1,5 @@
 ghost use Rattle.std.specs.Prelude.{refl};
-ghost use Rattle.stages.specs.Shapers.{shaping_course, shaper_view, shaper_views, shaper_below, ShaperSound};
+ghost use Rattle.stages.specs.Shapers.{shaping_course, shaper_view, shaper_views, shaper_below};
 
 use super::Shaper;
 use crate::stage::{Counts, Stage};
@@ -7,17 +7,15 @@ use flows::{Flow, StageBounds};
 use tables::Pair;
 
 impl<E: Flow + Drop> Flow for Shaper<E> {
-    ghost sound = { ShaperSound E.Flow };
-
     ghost pair = { λ s. s.bounds.passed };
 
     ghost course = { shaping_course E.Flow };
 
     ghost views = { shaper_views E.Flow };
 
-    ghost keeps = { λ s h. h.fine.0.keeps };
+    ghost keeps = { λ s. s.fine.0.keeps };
 
-    ghost viewed = { λ s h. h.fine };
+    ghost viewed = { λ s. s.fine };
 
     fn pair(&self) -> &Pair {
         &self.bounds.passed
@@ -53,10 +51,9 @@ impl<E: Flow + Drop> Stage for Shaper<E> {
     }
 
     fn arriving(&self) -> u32 {
-        if self.is_open {
-            self.events.pair().most.first()
-        } else {
-            0
+        match self.waiting {
+            Some(_) => self.events.pair().most.first(),
+            None => 0,
         }
     }
 

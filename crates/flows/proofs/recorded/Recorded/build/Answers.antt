@@ -1,30 +1,17 @@
-use Rattle.std.proofs.Common.{◌≡◌, length, sym, ap, ◌∙◌, subst, arith}
+use Rattle.std.proofs.Common.{◌≡◌, sym, ap, ◌∙◌, subst}
 use Rattle.tables.specs.Courses.{later, recorded}
-use Rattle.flows.specs.Checks.{or_closed, or_nothing}
+use Rattle.flows.specs.Checks.{or_nothing}
 use Rattle.flows.specs.Views.{KeepsPair}
 use Rattle.flows.proofs.Accepted.{recorded_sound}
-use Rattle.flows.proofs.Kept.{keeps_nothing}
-use Rattle.flows.proofs.Laters.{later_none, later_past}
+use Rattle.flows.proofs.Laters.{later_none}
 use Rattle.flows.proofs.recorded.Recorded.build.Goals as goal
 
-pub returns-in-Ok : goal.returns-in-Ok
-returns-in-Ok c =
+pub invariant_of-result : goal.invariant_of-result
+invariant_of-result c =
     let xs = c.args.list.now in
-    let is = c.in-Ok.ensures in
-    let starts : later 0 (recorded xs) ≡ recorded xs = later_none (recorded xs) in
-    record {
-      pair = ap or_closed is;
-      course = starts ∙ ap (λ s. or_nothing s (recorded xs)) is;
-      sound = subst (KeepsPair c.in-Ok.pair) (sym starts) (recorded_sound c.args.most.now xs c.in-Ok.pair is);
-    }
+    record { keeps = subst (KeepsPair c.in-Ok.pair) (sym (later_none (recorded xs))) (recorded_sound c.args.most.now xs c.in-Ok.pair c.in-Ok.ensures) }
 
-pub returns-in-Err : goal.returns-in-Err
-returns-in-Err c =
+pub returns-clause-course : goal.returns-clause-course
+returns-clause-course c =
     let xs = c.args.list.now in
-    let is = c.in-Err.ensures in
-    let past : later (length xs) (recorded xs) ≡ (λ _. 0) = later_past xs (length xs) (omega arith) in
-    record {
-      pair = c.zero.ensures ∙ ap or_closed is;
-      course = past ∙ ap (λ s. or_nothing s (recorded xs)) is;
-      sound = subst (KeepsPair c.zero.result) (sym past) (keeps_nothing c.zero.result c.zero.ensures);
-    }
+    later_none (recorded xs) ∙ ap (λ s. or_nothing s (recorded xs)) c.in-Ok.ensures

@@ -1,31 +1,28 @@
-use Rattle.std.proofs.Common.{◌≡◌, ◌+◌, refl, arith}
+use Rattle.std.proofs.Common.{arith}
 use Rattle.tables.specs.Courses.{recorded, slotted}
-use Rattle.flows.specs.States.{turning}
-use Rattle.flows.specs.Views.{tail}
 use Rattle.flows.proofs.Kept.{keeps_next}
 use Rattle.flows.proofs.Laters.{later_more, turning_now, turning_round}
 use Rattle.flows.proofs.slotted.SlottedFlow.draw.Goals as goal
 
-pub returns-then-self : goal.returns-then-self
-returns-then-self c =
+pub invariant_of-self : goal.invariant_of-self
+invariant_of-self c =
     let s = c.args.self.now in
-    let next : turning s.frame s.counts (s.place + 1) ≡ tail (turning s.frame s.counts s.place) = later_more (slotted s.frame (recorded s.counts)) s.place in
-    record {
-      count = turning_now s.frame s.counts s.place c.requires.inside;
-      next = next;
-      same = refl;
-      views = refl;
-      sound = record { few = c.requires.few; inside = omega arith; keeps = keeps_next s.pair next c.requires.keeps };
-    }
+    record { few = s.few; inside = omega arith; keeps = keeps_next s.pair (later_more (slotted s.frame (recorded s.counts)) s.place) s.keeps }
 
-pub returns-else-self : goal.returns-else-self
-returns-else-self c =
+pub invariant_of-self-else-self : goal.invariant_of-self-else-self
+invariant_of-self-else-self c =
     let s = c.args.self.now in
-    let next : turning s.frame s.counts 0 ≡ tail (turning s.frame s.counts s.place) = turning_round s.frame s.counts s.place (omega arith) in
-    record {
-      count = turning_now s.frame s.counts s.place c.requires.inside;
-      next = next;
-      same = refl;
-      views = refl;
-      sound = record { few = c.requires.few; inside = omega arith; keeps = keeps_next s.pair next c.requires.keeps };
-    }
+    let inside = s.inside in
+    record { few = s.few; inside = omega arith; keeps = keeps_next s.pair (turning_round s.frame s.counts s.place (omega arith)) s.keeps }
+
+pub returns-then-self-clause-count : goal.returns-then-self-clause-count
+returns-then-self-clause-count c = let s = c.args.self.now in turning_now s.frame s.counts s.place s.inside
+
+pub returns-then-self-clause-next : goal.returns-then-self-clause-next
+returns-then-self-clause-next c = let s = c.args.self.now in later_more (slotted s.frame (recorded s.counts)) s.place
+
+pub returns-else-self-clause-count : goal.returns-else-self-clause-count
+returns-else-self-clause-count c = let s = c.args.self.now in turning_now s.frame s.counts s.place s.inside
+
+pub returns-else-self-clause-next : goal.returns-else-self-clause-next
+returns-else-self-clause-next c = let s = c.args.self.now in let inside = s.inside in turning_round s.frame s.counts s.place (omega arith)

@@ -1,10 +1,15 @@
-use Rattle.std.proofs.Common.{refl}
+use Rattle.std.proofs.Common.{◌≡◌, ℕ, Some, None, Option, refl, ◌∙◌, is_some}
+use Rattle.std.specs.Option.{unwrap_or}
 use Rattle.courses.specs.Steps.{server_after}
-use Rattle.stages.proofs.Opens.{open_at}
+use Rattle.stages.specs.Opens.{open_course}
 use Rattle.stages.proofs.server.Server.held.Goals as goal
 
-pub returns-then-self : goal.returns-then-self
+pub returns : goal.returns
 unfolding server_after
-returns-then-self g c =
+returns g c =
     let s = c.args.self.now in
-    open_at (server_after s.waiting (g.E.Flow.course s.events) (g.S.Flow.course s.service)) 0 s.waiting c.if-self.true refl
+    c.unwrap_or.ensures ∙ now s.waiting
+  where
+    now : (o : Option ℕ) → unwrap_or o 0 ≡ open_course (is_some o) (server_after (unwrap_or o 0) (g.E.Flow.course c.args.self.now.events) (g.S.Flow.course c.args.self.now.service)) 0
+    now None = refl
+    now (Some w) = refl

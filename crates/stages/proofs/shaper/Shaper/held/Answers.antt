@@ -1,12 +1,16 @@
-use Rattle.std.proofs.Common.{refl}
+use Rattle.std.proofs.Common.{◌≡◌, ℕ, Some, None, Option, refl, ◌∙◌, is_some}
+use Rattle.std.specs.Option.{unwrap_or}
 use Rattle.courses.specs.Steps.{shaper_after}
 use Rattle.tables.specs.Tables.{at}
-use Rattle.stages.specs.Shapers.{state}
-use Rattle.stages.proofs.Opens.{open_at}
+use Rattle.stages.specs.ShaperViews.{shaping_view}
 use Rattle.stages.proofs.shaper.Shaper.held.Goals as goal
 
-pub returns-then-self : goal.returns-then-self
+pub returns : goal.returns
 unfolding shaper_after
-returns-then-self g c =
+returns g c =
     let s = c.args.self.now in
-    open_at (λ t. (shaper_after s.shaping.frame (at s.shaping) (state g.E.Flow s) (g.E.Flow.course s.events) t).backlog) 0 s.waiting c.if-self.true refl
+    c.unwrap_or.ensures ∙ now s.waiting
+  where
+    now : (o : Option ℕ) → unwrap_or o 0 ≡ (shaping_view g.E.Flow o c.args.self.now.past c.args.self.now.events c.args.self.now.shaping c.args.self.now.bounds).waits 0
+    now None = refl
+    now (Some w) = refl

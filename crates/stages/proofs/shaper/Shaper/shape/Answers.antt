@@ -1,10 +1,12 @@
-use Rattle.std.proofs.Common.{◌≡◌, ℕ, ◌+◌, ◌-◌, ◌≤◌, List, length, get_or, take, sum as total, refl, ap, ◌∙◌, arith, rules}
+use Rattle.std.proofs.Common.{◌≡◌, ℕ, ◌+◌, ◌-◌, ◌≤◌, min, Some, List, length, get_or, take, sum as total, sym, subst, refl, ap, ◌∙◌, arith, rules}
 use Rattle.tables.specs.Ranges.{smallest}
 use Rattle.std.proofs.lemmas.List.FromFn.{length-map-range_with_len, get_or-map-range_with_len}
 use Rattle.tables.specs.Tables.{at, row}
 use Rattle.tables.proofs.Ranges.{smallest_same}
-use Rattle.stages.proofs.Opens.{first_small, open_at}
-use Rattle.stages.proofs.Shaping.{ticked, held}
+use Rattle.flows.specs.Views.{All, Fine}
+use Rattle.stages.specs.ShaperViews.{shaping_view, shaping_views}
+use Rattle.stages.proofs.Opens.{first_small}
+use Rattle.stages.proofs.Shaping.{ticked, next_fine, held}
 use Rattle.stages.proofs.shaper.Shaper.shape.Goals as goal
 
 -- what the entries of a shaping table still allow
@@ -28,21 +30,35 @@ pub overflow_add-all : goal.overflow_add-all
 overflow_add-all g c =
     let s = c.args.self.now in
     let e = g.E.Flow in
-    let few = first_small (e.pair s.events) (e.course s.events) (e.keeps s.events c.requires.events) in
-    let wait = held e s c.requires c.if-not-self.false in
+    let few = first_small (e.pair s.events) (e.course s.events) (e.keeps s.events) in
+    let wait = held e s c.in-Some.waiting c.in-Some.is in
     let small = s.small in
     let is = c.draw-arrived.ensures.count in
     search rules
+
+pub invariant_of-self-clause-fine : goal.invariant_of-self-clause-fine
+invariant_of-self-clause-fine g c =
+    let s = c.args.self.now in
+    let E = g.E.Flow in
+    let a = c.draw-arrived.ensures in
+    let w = c.in-Some.waiting in
+    let p = c.min-passed.result in
+    let all = w + c.draw-arrived.result in
+    subst (λ past. All Fine (shaping_views E (Some (all - p)) past c.draw-arrived.new.self s.shaping s.bounds)) (sym c.put_first.ensures)
+    (next_fine E s.events c.draw-arrived.new.self s.shaping s.bounds s.past w c.draw-arrived.result p
+    record { count = a.count; next = a.next; same = a.same; views = a.views }
+    (omega (arith, c.min-passed.ensures, c.room-allowed.ensures, allowed s.shaping.frame (at s.shaping) c.entries.result.now s.past s.shaping.some c.entries.ensures))
+    (subst (λ o. All Fine (shaping_views E o s.past s.events s.shaping s.bounds)) c.in-Some.is s.fine))
 
 pub returns : goal.returns
 returns g c =
     let a = c.draw-arrived.ensures in
     let s = c.args.self.now in
     record {
-      arrived = open_at (g.E.Flow.course s.events) 0 c.draw-arrived.result c.if-not-self.false a.count;
+      arrived = a.count ∙ ap (λ o. (shaping_view g.E.Flow o s.past s.events s.shaping s.bounds).arrived 0) (sym c.in-Some.is);
       ticked =
-          ticked g.E.Flow s _ c.draw-arrived.result c.min-passed.result c.requires
-          record { count = a.count; next = a.next; same = a.same; views = a.views; sound = a.sound }
+          ticked g.E.Flow s _ c.in-Some.waiting c.draw-arrived.result c.min-passed.result c.in-Some.is refl c.put_first.ensures
+          record { count = a.count; next = a.next; same = a.same; views = a.views }
           (omega (arith, c.min-passed.ensures, c.room-allowed.ensures, allowed s.shaping.frame (at s.shaping) c.entries.result.now s.past s.shaping.some c.entries.ensures))
-          refl c.put_first.ensures refl refl refl c.if-not-self.false;
+          refl refl;
     }
