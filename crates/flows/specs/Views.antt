@@ -61,6 +61,10 @@ pub all_fine_prop : (vs : List View) → IsProp (All Fine vs)
 all_fine_prop [] = Unit-prop
 all_fine_prop (v ∷ vs) = ×_prop (fine_prop v) (all_fine_prop vs)
 
+pub all_idle_prop : (vs : List View) → IsProp (All Idle vs)
+all_idle_prop [] = Unit-prop
+all_idle_prop (v ∷ vs) = ×_prop (hlevel props) (all_idle_prop vs)
+
 -- the bounds of the stage at place i, or how far i lies past the last
 abbrev pub look : List View → ℕ → Result StageBounds ℕ
 look [] i = Err i

@@ -98,11 +98,10 @@ module _ {X : Type 0} (F : flow.Ghosts X) (P : stage.Ghosts X) where
     all_arrived : s.arrived ≡ sum (P.top r.network).arrived s.ticks
     all_passed : s.passed ≡ sum (P.top r.network).passed s.ticks
     greatest : s.greatest ≡ largest s.ticks (P.top r.network).waits
-    sound : F.sound s.network
 
-  come_none : (r : Running X P F) (l : Lists) → r.ticks ≡ 0 → r.arrived ≡ 0 → r.passed ≡ 0 → r.greatest ≡ 0 → Idle (P.top r.network) → F.sound r.network → Come r l r l
+  come_none : (r : Running X P F) (l : Lists) → r.ticks ≡ 0 → r.arrived ≡ 0 → r.passed ≡ 0 → r.greatest ≡ 0 → Idle (P.top r.network) → Come r l r l
   unfolding largest
-  come_none r l zt za zp zg idle h =
+  come_none r l zt za zp zg idle =
       let v = P.top r.network in
       record {
         views = each_none (F.views r.network) ∙ ap (λ k. map (on k) (F.views r.network)) (sym zt);
@@ -113,7 +112,6 @@ module _ {X : Type 0} (F : flow.Ghosts X) (P : stage.Ghosts X) where
         all_arrived = za ∙ ap (sum v.arrived) (sym zt);
         all_passed = zp ∙ ap (sum v.passed) (sym zt);
         greatest = zg ∙ sym idle ∙ ap (λ k. largest k v.waits) (sym zt);
-        sound = h;
       }
 
   come_more : (r : Running X P F) (l : Lists) (s : Running X P F) (m : Lists) (t : Running X P F) (n : Lists) (c : Counts) → Come r l s m → Went F P s m t n c → Come r l t n
@@ -135,7 +133,6 @@ module _ {X : Type 0} (F : flow.Ghosts X) (P : stage.Ghosts X) where
         all_arrived = w.all_arrived ∙ (λ i. h.all_arrived i + ca i) ∙ ap (sum v.arrived) (sym (w.ticks ∙ one));
         all_passed = w.all_passed ∙ (λ i. h.all_passed i + cp i) ∙ ap (sum v.passed) (sym (w.ticks ∙ one));
         greatest = w.greatest ∙ (λ i. max (h.greatest i) ((cw ∙ ap v.waits one) i)) ∙ ap (λ j. largest j v.waits) (sym (w.ticks ∙ one));
-        sound = w.sound;
       }
 
   come_ticked : (r : Running X P F) (l : Lists) (s : Running X P F) (m : Lists) (t : Running X P F) (n : Lists) (a : Result Counts _) → Come r l s m → Ticked F P s m t n a → Come r l t n
@@ -183,10 +180,9 @@ module _ {X : Type 0} (F : flow.Ghosts X) (P : stage.Ghosts X) where
           all_arrived = h.come.all_arrived;
           all_passed = h.come.all_passed;
           greatest = h.come.greatest;
-          sound = h.come.sound;
         }
 
-  pub every : {M : Type 0} (r : Running X P F) (held : List M) → r.ticks ≡ 0 → r.arrived ≡ 0 → r.passed ≡ 0 → r.greatest ≡ 0 → Idle (P.top r.network) → F.sound r.network
+  pub every : {M : Type 0} (r : Running X P F) (held : List M) → r.ticks ≡ 0 → r.arrived ≡ 0 → r.passed ≡ 0 → r.greatest ≡ 0 → Idle (P.top r.network)
       → All Fine (F.views r.network) → All Idle (F.views r.network) → held ≡ [] → EveryRun F P r held
-  every r held zt za zp zg idle h fine all empty l n =
-      kept (record { run = r; log = l; held = held; slots = n }) (come_none r l zt za zp zg idle h) empty fine all
+  every r held zt za zp zg idle fine all empty l n =
+      kept (record { run = r; log = l; held = held; slots = n }) (come_none r l zt za zp zg idle) empty fine all

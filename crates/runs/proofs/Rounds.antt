@@ -70,19 +70,6 @@ keep_step H₀ H₁ H₂ F i m e₁ e₂ l r =
     let a = append_assoc H₀ (take i F) (m ∷ []) in
     cc
 
-pub send_step : {X : Type 0} (out H₀ H₁ H₂ : List X) (i : ℕ) (m : X) → take i out ++ H₁ ≡ H₀ → H₁ ≡ m ∷ H₂ → i < length out → take (i + 1) (set out i m) ++ H₂ ≡ H₀
-send_step out H₀ H₁ H₂ i m e₁ e₂ l =
-    let t = take_more_set out i m l in
-    let a = append_assoc (take i out) (m ∷ []) H₂ in
-    cc
-
-pub send_rest : {X : Type 0} (out was : List X) (i : ℕ) (m : X) → drop i out ≡ drop i was → drop (i + 1) (set out i m) ≡ drop (i + 1) was
-send_rest out was i m e =
-    let t = drop-set-lt (i + 1) out i m (omega arith) in
-    let u = drop-drop 1 i out in
-    let v = drop-drop 1 i was in
-    cc
-
 pub none_held : {X : Type 0} (s : List X) (h n : ℕ) → n ≡ 0 → held_in s h n ≡ []
 none_held s h n e = ap (λ k. held_in s h k) e
 

@@ -93,7 +93,6 @@ module _ {X : Type 0} (F : flow.Ghosts X) (P : stage.Ghosts X) where
     pub log_waiting : m.waiting ≡ slice_set l.waiting r.ticks c.waiting
     pub top : P.top s.network ≡ next_view (P.top r.network)
     pub views : F.views s.network ≡ map next_view (F.views r.network)
-    pub sound : F.sound s.network
 
   -- a call that was refused changed nothing
   pub record Stayed (r : Running X P F) (l : Lists) (s : Running X P F) (m : Lists) : Type 0 where
@@ -162,7 +161,6 @@ module _ {X : Type 0} (F : flow.Ghosts X) (P : stage.Ghosts X) where
       pub all_arrived : t.run.arrived ≡ sum (P.top s.run.network).arrived t.run.ticks
       pub all_passed : t.run.passed ≡ sum (P.top s.run.network).passed t.run.ticks
       pub greatest : t.run.greatest ≡ largest t.run.ticks (P.top s.run.network).waits
-      pub sound : F.sound t.run.network
 
     -- over every run from power-on, with every log and every number of slots
     abbrev pub EveryRun : Running X P F → List M → Type 0

@@ -11,11 +11,8 @@ use stages::Stage;
 impl<P: Stage + Drop> Fitted<P> {
     /// A network from which nothing was drawn.
     pub fn new(network: P) -> Fitted<P>
-        requires sound { P.Flow.sound network }
-        requires fresh { All Idle (P.Flow.views network) }
-        ensures network { result.network ≡ network }
-        ensures sound { P.Flow.sound result.network }
-        ensures fresh { All Idle (P.Flow.views result.network) }
+        requires { All Idle (P.Flow.views network) }
+        ensures { result.network ≡ network }
     {
         Fitted { network }
     }
@@ -31,12 +28,9 @@ impl<P: Stage + Drop> Fitted<P> {
     /// Power-on, with a ring for the messages: every run from here on, of ticks and carries, refused or not,
     /// keeps what is promised.
     pub fn start<M: Copy>(self, ring: &Ring<M>) -> Running<P>
-        requires sound { P.Flow.sound self.network }
-        requires fresh { All Idle (P.Flow.views self.network) }
         ensures value { result ≡ started self.network }
         ensures network { result.network ≡ self.network }
         ensures sums { (result.ticks ≡ 0) × (result.arrived ≡ 0) × (result.passed ≡ 0) × (result.greatest ≡ 0) }
-        ensures sound { P.Flow.sound result.network }
         ensures runs { holds ring.now ≡ [] → EveryRun P.Flow P.Stage.own result (holds ring.now) }
     {
         let Fitted { network } = self;

@@ -67,9 +67,9 @@ impl<'a, M: Copy> Ring<'a, M> {
         ensures slots { room self.new ≡ room self.old }
         ensures count { self.new.held ≡ self.old.held - n }
     {
-        for i in 0..n {
+        for place in &mut out[..n] {
             if let Some(m) = self.pop() {
-                out[i] = m;
+                *place = m;
             }
         }
     }
@@ -81,8 +81,8 @@ impl<'a, M: Copy> Ring<'a, M> {
         ensures slots { room self.new ≡ room self.old }
         ensures count { self.new.held ≡ self.old.held + length fresh.now }
     {
-        for m in fresh {
-            self.push(*m);
+        for &m in fresh {
+            self.push(m);
         }
     }
 

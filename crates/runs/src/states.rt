@@ -1,12 +1,14 @@
 // The three states of a network.
 ghost use Rattle.std.specs.Prelude.{◌*◌, ◌≤◌};
+ghost use Rattle.flows.specs.Views.{All, Idle, all_idle_prop};
 
 use stages::Stage;
 
-/// A network that is fitted and not yet started: its bounds can be read.
+/// A network that is fitted and not yet started: its bounds can be read, and nothing was drawn from it.
 #[derive(Drop)]
 pub struct Fitted<P: Stage + Drop> {
     pub(crate) network: P,
+    ghost fresh: { All Idle (P.Flow.views network) } by { all_idle_prop (P.Flow.views network) },
 }
 
 /// A network that runs: it ticks and carries.

@@ -24,10 +24,8 @@ impl<P: Stage + Drop> Running<P> {
 
     // A tick for which the log has a place.
     pub(crate) fn take_tick(&mut self, log: &mut Log) -> Counts
-        requires sound { P.Flow.sound self.old.network }
-        requires room { self.old.ticks < places (lists log.old) }
-        ensures went { Went P.Flow P.Stage.own self.old (lists log.old) self.new (lists log.new) result }
-        ensures sound { P.Flow.sound self.new.network }
+        requires { self.old.ticks < places (lists log.old) }
+        ensures { Went P.Flow P.Stage.own self.old (lists log.old) self.new (lists log.new) result }
     {
         let at = self.ticks as usize;
         let counts = self.network.step();
@@ -43,9 +41,7 @@ impl<P: Stage + Drop> Running<P> {
 
     /// One tick, written to the next place of the log: `Log` where the shortest list is used up.
     pub fn tick(&mut self, log: &mut Log) -> Result<Counts, Refusal>
-        requires { P.Flow.sound self.old.network }
-        ensures ticked { Ticked P.Flow P.Stage.own self.old (lists log.old) self.new (lists log.new) result }
-        ensures sound { P.Flow.sound self.new.network }
+        ensures { Ticked P.Flow P.Stage.own self.old (lists log.old) self.new (lists log.new) result }
     {
         if !self.has_place(log) {
             return Err(Refusal::Log);

@@ -22,12 +22,10 @@ impl<P: Stage + Drop> Running<P> {
         out: &mut [M],
         done: Done,
     ) -> Done
-        requires sound { P.Flow.sound self.old.network }
         requires few { done.refused < 18446744073709551615 }
         requires taken { done.taken ≤ length input.now }
         requires given { done.given ≤ length out.old }
         ensures called { Called P.Flow P.Stage.own input.now call (desk self.old log.old ring.old out.old done) (desk self.new log.new ring.new out.new result) }
-        ensures sound { P.Flow.sound self.new.network }
         ensures few { result.refused ≤ done.refused + 1 }
         ensures taken { result.taken ≤ length input.now }
         ensures given { result.given ≤ length out.old }
@@ -74,9 +72,7 @@ impl<P: Stage + Drop> Running<P> {
         input: &[M],
         out: &mut [M],
     ) -> Done
-        requires { P.Flow.sound self.old.network }
-        ensures through { Through P.Flow P.Stage.own input.now (desk self.old log.old ring.old out.old nothing) calls.now (desk self.new log.new ring.new out.new result) }
-        ensures sound { P.Flow.sound self.new.network }
+        ensures { Through P.Flow P.Stage.own input.now (desk self.old log.old ring.old out.old nothing) calls.now (desk self.new log.new ring.new out.new result) }
     {
         let mut done = Done {
             taken: 0,
@@ -101,11 +97,8 @@ impl<P: Stage + Drop> Fitted<P> {
         input: &[M],
         out: &mut [M],
     ) -> Worked<P>
-        requires sound { P.Flow.sound self.network }
-        requires fresh { All Idle (P.Flow.views self.network) }
         ensures through { Through P.Flow P.Stage.own input.now (desk (started self.network) log.old ring.old out.old nothing) calls.now (desk result.running log.new ring.new out.new result.done) }
         ensures kept { holds ring.old ≡ [] → Kept P.Flow P.Stage.own (cabinet (started self.network) log.old ring.old) (take result.done.taken input.now) (take result.done.given out.new) (cabinet result.running log.new ring.new) }
-        ensures sound { P.Flow.sound result.running.network }
         ensures taken { result.done.taken ≤ length input.now }
         ensures given { result.done.given ≤ length out.new }
         ensures arrived { length log.new.arrived.now ≡ length log.old.arrived.now }

@@ -8,11 +8,10 @@ pub returns : goal.returns
 returns g c =
     let F = g.P.Flow in
     let x = c.args.self.network in
-    let idle = (subst (All Idle) (g.met.P.Stage.first x) c.requires.fresh).0 in
+    let idle = (subst (All Idle) (g.met.P.Stage.first x) c.args.self.fresh).0 in
     record {
       value = at_start F g.P.Stage x _ _;
       network = refl;
       sums = (refl, refl, refl, refl);
-      sound = c.requires.sound;
-      runs = every F g.P.Stage _ (holds c.args.ring.now) refl refl refl refl idle c.requires.sound (F.viewed x c.requires.sound) c.requires.fresh;
+      runs = every F g.P.Stage _ (holds c.args.ring.now) refl refl refl refl idle (F.viewed x) c.args.self.fresh;
     }

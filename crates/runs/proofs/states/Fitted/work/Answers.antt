@@ -10,13 +10,12 @@ returns g c =
     let F = g.P.Flow in
     let P = g.P.Stage in
     let x = c.args.self.network in
-    let through = subst (λ r. Through F P c.args.input.now (desk r c.args.log.now c.args.ring.now c.args.out.now nothing) c.args.calls.now (desk c.work-done.new.self c.work-done.new.log c.work-done.new.ring c.work-done.new.out c.work-done.result)) c.start-running.ensures.value c.work-done.ensures.through in
+    let through = subst (λ r. Through F P c.args.input.now (desk r c.args.log.now c.args.ring.now c.args.out.now nothing) c.args.calls.now (desk c.work-done.new.self c.work-done.new.log c.work-done.new.ring c.work-done.new.out c.work-done.result)) c.start-running.ensures.value c.work-done.ensures in
     let done = listed F P c.args.input.now _ refl refl through in
     let long = as_long F P c.args.input.now _ through in
     record {
       through = through;
       kept = λ empty. subst (λ r. EveryRun F P r (holds c.args.ring.now)) c.start-running.ensures.value (c.start-running.ensures.runs empty) (lists c.args.log.now) (room c.args.ring.now) _ _ _ done.run;
-      sound = c.work-done.ensures.sound;
       taken = done.taken;
       given = done.given;
       arrived = long.arrived;

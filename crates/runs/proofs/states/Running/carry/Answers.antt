@@ -1,4 +1,5 @@
-use Rattle.std.proofs.Common.{◌≡◌, None, sym, arith}
+use Rattle.std.proofs.Common.{◌≡◌, None, sym, ap, ◌∙◌, arith}
+use Rattle.std.specs.Result.{result_err}
 use Rattle.stages.proofs.Opens.{first_few}
 use Rattle.runs.specs.Held.{holds, room}
 use Rattle.runs.specs.Runs.{lists, refusal_of_carry}
@@ -12,10 +13,10 @@ carry-requires g c =
     let ring = c.args.ring.now in
     let x = run.network in
     let v = g.P.Stage.top x in
-    let fine = top_fine (g.P.Flow.views x) (g.P.Stage.below x) v (g.met.P.Stage.first x) (g.P.Flow.viewed x c.requires) in
-    let is = ready g.P.Flow g.P.Stage (record { run = run; log = lists c.args.log.now; held = holds ring; slots = room ring }) c.args.input.now c.args.out.now (sym c.in_default.ensures) in
+    let fine = top_fine (g.P.Flow.views x) (g.P.Stage.below x) v (g.met.P.Stage.first x) (g.P.Flow.viewed x) in
+    let is = ready g.P.Flow g.P.Stage (record { run = run; log = lists c.args.log.now; held = holds ring; slots = room ring }) c.args.input.now c.args.out.now (sym c.may_carry.ensures ∙ ap result_err c.in_ok-may_carry.was) in
     let long = length_held ring.slots.now ring.head ring.held ring.begins ring.few in
-    let w = c.take_tick-counts.ensures.went in
+    let w = c.take_tick-counts.ensures in
     let few = first_few v.bounds.pair v.passed fine.keeps 0 in
     record {
       arrived = omega (arith, fine.few 0, w.arrived, is.in_list);
@@ -30,22 +31,18 @@ returns g c =
     let ring = c.args.ring.now in
     let x = run.network in
     let v = g.P.Stage.top x in
-    let fine = top_fine (g.P.Flow.views x) (g.P.Stage.below x) v (g.met.P.Stage.first x) (g.P.Flow.viewed x c.requires) in
-    let none : refusal_of_carry g.P.Flow g.P.Stage (record { run = run; log = lists c.args.log.now; held = holds ring; slots = room ring }) c.args.input.now c.args.out.now ≡ None = sym c.in_default.ensures in
+    let fine = top_fine (g.P.Flow.views x) (g.P.Stage.below x) v (g.met.P.Stage.first x) (g.P.Flow.viewed x) in
+    let none : refusal_of_carry g.P.Flow g.P.Stage (record { run = run; log = lists c.args.log.now; held = holds ring; slots = room ring }) c.args.input.now c.args.out.now ≡ None = sym c.may_carry.ensures ∙ ap result_err c.in_ok-may_carry.was in
     let is = ready g.P.Flow g.P.Stage (record { run = run; log = lists c.args.log.now; held = holds ring; slots = room ring }) c.args.input.now c.args.out.now none in
-    let w = c.take_tick-counts.ensures.went in
-    let few = first_few v.bounds.pair v.passed fine.keeps 0 in
-    record {
-      carried = (
-        none,
-        record {
-          went = w;
-          in_list = omega (arith, fine.few 0, w.arrived, is.in_list);
-          out_list = omega (arith, few, w.passed, is.out_list);
-          order = sym c.carry.ensures.order;
-          others = c.carry.ensures.rest;
-          slots = c.carry.ensures.slots;
-        },
-      );
-      sound = c.take_tick-counts.ensures.sound;
-    }
+    let w = c.take_tick-counts.ensures in
+    let few = first_few v.bounds.pair v.passed fine.keeps 0 in (
+      none,
+      record {
+        went = w;
+        in_list = omega (arith, fine.few 0, w.arrived, is.in_list);
+        out_list = omega (arith, few, w.passed, is.out_list);
+        order = sym c.carry.ensures.order;
+        others = c.carry.ensures.rest;
+        slots = c.carry.ensures.slots;
+      },
+    )
