@@ -1,6 +1,6 @@
 // A flow that brings one burst.
 ghost use Rattle.std.specs.Prelude.{◌≡◌, []};
-ghost use Rattle.tables.specs.Tables.{curves};
+ghost use Rattle.tables.specs.Tables.{curves, paired};
 ghost use Rattle.flows.specs.Checks.{or_closed, or_nothing};
 ghost use Rattle.flows.specs.Views.{KeepsPair};
 ghost use Rattle.own_flow.specs.Bursts.{burst, burst_answer};
@@ -14,6 +14,8 @@ pub struct Burst {
     // What this tick brings.
     count: u32,
     pair: Pair,
+    // Its course keeps its pair.
+    ghost keeps: { KeepsPair pair (burst count) },
 }
 
 impl Burst {
@@ -22,22 +24,26 @@ impl Burst {
     pub fn build(count: u32) -> Burst
         ensures pair { curves result.pair ≡ or_closed (burst_answer count) }
         ensures course { burst result.count ≡ or_nothing (burst_answer count) (burst count) }
-        ensures sound { KeepsPair result.pair (burst result.count) }
     {
-        match Pair::new(&[count; 4], &[0; 4]) {
-            Ok(pair) => Burst { count, pair },
-            Err(_) => Burst {
-                count: 0,
-                pair: Pair::zero(),
-            },
+        let Ok(pair) = Pair::new(&[count; 4], &[0; 4]) else {
+            return Burst::closed();
+        };
+        Burst { count, pair }
+    }
+
+    // A flow that hands over nothing.
+    fn closed() -> Burst
+        ensures pair { curves result.pair ≡ paired 1 (λ _. 0) (λ _. 0) }
+        ensures course { result.count ≡ 0 }
+    {
+        Burst {
+            count: 0,
+            pair: Pair::zero(),
         }
     }
 }
 
 impl Flow for Burst {
-    // Its course keeps its pair.
-    ghost sound = { λ s. KeepsPair s.pair (burst s.count) };
-
     ghost pair = { λ s. s.pair };
 
     ghost course = { λ s. burst s.count };
@@ -45,9 +51,9 @@ impl Flow for Burst {
     // No stage stands below it.
     ghost views = { λ _. [] };
 
-    ghost keeps = { λ _ h. h };
+    ghost keeps = { λ s. s.keeps };
 
-    ghost viewed = { λ _ _. tt };
+    ghost viewed = { λ _. tt };
 
     fn pair(&self) -> &Pair {
         &self.pair

@@ -1,14 +1,11 @@
 // The stages on small inputs.
-ghost use Rattle.std.specs.Prelude.{◌≡◌, ℕ, ◌+◌, ◌<◌, false, length, Err, Decides, MatchResult, slice_index};
-ghost use Rattle.std.specs.Result.{result_map_both};
-ghost use Rattle.tables.specs.Makes.{table_answer};
-ghost use Rattle.tables.specs.Refusals.{number_of};
-ghost use Rattle.tables.specs.Tables.{at, curve, row};
+ghost use Rattle.std.specs.Prelude.{◌≡◌, ℕ, ◌+◌, ◌<◌, false, length, Err, Decides, MatchResult, slice_index, slice_index_or};
+ghost use Rattle.tables.specs.Tables.{at, row};
 ghost use Rattle.flows.specs.Views.{look};
 
 use flows::Flow;
 use stages::Stage;
-use tables::{Pair, Table};
+use tables::Pair;
 
 mod bounds;
 mod closed;
@@ -16,17 +13,12 @@ mod refusals;
 mod runs;
 
 // Whether the next ticks pass these counts, with so many waiting after each.
-fn passes<T: Stage>(stage: &mut T, passed: &[u32], waiting: &[u32]) -> bool
-    requires { T.Flow.sound stage.old }
-    ensures decides { Decides result ((length passed.now ≡ length waiting.now) × ((k : ℕ) → k < length passed.now → ((T.Stage.top stage.old).passed k ≡ slice_index passed.now k) × ((T.Stage.top stage.old).waits (k + 1) ≡ slice_index waiting.now k))) }
-    ensures sound { T.Flow.sound stage.new }
+fn passes<T: Stage>(stage: &mut T, ticks: &[(u32, u32)]) -> bool
+    ensures { Decides result ((k : ℕ) → k < length ticks.now → ((T.Stage.top stage.old).passed k ≡ (slice_index_or ticks.now k (0, 0)).0) × ((T.Stage.top stage.old).waits (k + 1) ≡ (slice_index_or ticks.now k (0, 0)).1)) }
 {
-    if passed.len() != waiting.len() {
-        return false;
-    }
-    for k in 0..passed.len() {
+    for &(passed, waiting) in ticks {
         let seen = stage.step();
-        if seen.passed != passed[k] || seen.waiting != waiting[k] {
+        if seen.passed != passed || seen.waiting != waiting {
             return false;
         }
     }
@@ -35,12 +27,10 @@ fn passes<T: Stage>(stage: &mut T, passed: &[u32], waiting: &[u32]) -> bool
 
 // Whether the next counts are these.
 fn hands_over<F: Flow>(flow: &mut F, counts: &[u32]) -> bool
-    requires { F.Flow.sound flow.old }
-    ensures decides { Decides result ((k : ℕ) → k < length counts.now → F.Flow.course flow.old k ≡ slice_index counts.now k) }
-    ensures sound { F.Flow.sound flow.new }
+    ensures { Decides result ((k : ℕ) → k < length counts.now → F.Flow.course flow.old k ≡ slice_index counts.now k) }
 {
-    for k in 0..counts.len() {
-        if flow.draw() != counts[k] {
+    for &count in counts {
+        if flow.draw() != count {
             return false;
         }
     }
@@ -71,15 +61,5 @@ fn is_past<F: Flow>(flow: &F, place: usize, past: usize) -> bool
     match flow.bounds(place) {
         Ok(_) => false,
         Err(far) => far == past,
-    }
-}
-
-// The table of the counts, or the number of its refusal.
-fn table(counts: &[u32]) -> Result<Table, u8>
-    ensures { result_map_both curve (λ n. n) result ≡ result_map_both (λ c. c) number_of (table_answer counts.now) }
-{
-    match Table::new(counts) {
-        Ok(table) => Ok(table),
-        Err(refusal) => Err(refusal.number()),
     }
 }

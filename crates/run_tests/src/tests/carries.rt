@@ -1,13 +1,14 @@
 // Messages through a server, in order.
-use super::{adds_up, number, table};
-use flows::{Recorded, Steady};
+use super::sums;
+use flows::{Recorded, Steady, number_given};
 use runs::{Fitted, Log, Ring};
 use stages::Server;
 use std::test::Fail;
+use tables::Table;
 
 #[test]
 fn carries_in_order(rt: HostRuntime) -> Result<(), Fail> {
-    let events = Recorded::build(&[2, 1, 0, 1], &table(&[2, 3, 3, 4])?);
+    let events = Recorded::build(&[2, 1, 0, 1], &Table::new(&[2, 3, 3, 4])?);
     let fitted = Fitted::new(Server::build(events, Steady::build(4, 1)));
     let mut slots = [' '; 1];
     let mut ring = Ring::new(&mut slots);
@@ -22,7 +23,7 @@ fn carries_in_order(rt: HostRuntime) -> Result<(), Fail> {
     };
     let mut out = ['-'; 2];
     assert_eq!(rt;
-        number(running.carry(&mut log, &mut ring, &['a', 'b', 'x'], &mut out)),
+        number_given(running.carry(&mut log, &mut ring, &['a', 'b', 'x'], &mut out)),
         0
     );
     assert!(rt; out == ['a', '-']);
@@ -30,23 +31,23 @@ fn carries_in_order(rt: HostRuntime) -> Result<(), Fail> {
     assert!(rt; ring.get(0) == Some('b'));
     assert!(rt; ring.get(1) == None);
     assert_eq!(rt;
-        number(running.carry(&mut log, &mut ring, &['c', 'x'], &mut out)),
+        number_given(running.carry(&mut log, &mut ring, &['c', 'x'], &mut out)),
         0
     );
     assert!(rt; out == ['b', '-']);
     assert!(rt; ring.get(0) == Some('c'));
     assert_eq!(rt;
-        number(running.carry(&mut log, &mut ring, &['x', 'x'], &mut out)),
+        number_given(running.carry(&mut log, &mut ring, &['x', 'x'], &mut out)),
         0
     );
     assert!(rt; out == ['c', '-']);
     assert_eq!(rt; ring.len(), 0);
     assert_eq!(rt;
-        number(running.carry(&mut log, &mut ring, &['d', 'x'], &mut out)),
+        number_given(running.carry(&mut log, &mut ring, &['d', 'x'], &mut out)),
         0
     );
     assert!(rt; out == ['d', '-']);
-    assert!(rt; adds_up(&running.sums(), 4, 4, 4, 0, 1));
+    assert_eq!(rt; running.sums(), sums(4, 4, 4, 0, 1));
     assert!(rt; passed == [1, 1, 1, 1]);
     assert!(rt; waiting == [1, 1, 0, 0]);
     Ok(())

@@ -1,13 +1,14 @@
 // Lists of calls.
-use super::{adds_up, table};
+use super::sums;
 use flows::{Recorded, Steady};
 use runs::{Call, Fitted, Log, Ring};
 use stages::Server;
 use std::test::Fail;
+use tables::Table;
 
 #[test]
 fn works_through_refusals(rt: HostRuntime) -> Result<(), Fail> {
-    let events = Recorded::build(&[2, 1, 0, 1], &table(&[2, 3, 3, 4])?);
+    let events = Recorded::build(&[2, 1, 0, 1], &Table::new(&[2, 3, 3, 4])?);
     let fitted = Fitted::new(Server::build(events, Steady::build(4, 1)));
     let mut slots = [' '; 1];
     let mut ring = Ring::new(&mut slots);
@@ -37,7 +38,7 @@ fn works_through_refusals(rt: HostRuntime) -> Result<(), Fail> {
     assert_eq!(rt; worked.done.taken, 2);
     assert_eq!(rt; worked.done.given, 2);
     assert_eq!(rt; worked.done.refused, 3);
-    assert!(rt; adds_up(&worked.running.sums(), 4, 4, 4, 0, 1));
+    assert_eq!(rt; worked.running.sums(), sums(4, 4, 4, 0, 1));
     assert_eq!(rt; ring.len(), 0);
     assert!(rt; out == ['a', 'b', '-', '-']);
     assert!(rt; arrived == [2, 1, 0, 1]);
@@ -48,7 +49,7 @@ fn works_through_refusals(rt: HostRuntime) -> Result<(), Fail> {
 
 #[test]
 fn works_on_after_a_list(rt: HostRuntime) -> Result<(), Fail> {
-    let events = Recorded::build(&[2, 1, 0, 1], &table(&[2, 3, 3, 4])?);
+    let events = Recorded::build(&[2, 1, 0, 1], &Table::new(&[2, 3, 3, 4])?);
     let fitted = Fitted::new(Server::build(events, Steady::build(4, 1)));
     let mut slots = [0; 1];
     let mut ring = Ring::new(&mut slots);
@@ -76,6 +77,6 @@ fn works_on_after_a_list(rt: HostRuntime) -> Result<(), Fail> {
     assert_eq!(rt; worked.done.taken, 0);
     assert_eq!(rt; ring.len(), 0);
     assert!(rt; worked.running.tick(&mut log).is_ok());
-    assert!(rt; adds_up(&worked.running.report().sums(), 2, 3, 2, 1, 1));
+    assert_eq!(rt; worked.running.report().sums(), sums(2, 3, 2, 1, 1));
     Ok(())
 }

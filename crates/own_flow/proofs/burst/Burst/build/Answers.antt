@@ -1,25 +1,14 @@
-use Rattle.std.proofs.Common.{sym, ap, ◌∙◌, subst}
-use Rattle.flows.proofs.Kept.{keeps_nothing}
-use Rattle.flows.specs.Checks.{or_closed, or_nothing}
-use Rattle.flows.specs.Views.{KeepsPair}
+use Rattle.std.proofs.Common.{ap, ◌∙◌}
+use Rattle.flows.specs.Checks.{or_nothing}
 use Rattle.own_flow.specs.Bursts.{burst}
 use Rattle.own_flow.proofs.Bursts.{burst_keeps, burst_closed}
 use Rattle.own_flow.proofs.burst.Burst.build.Goals as goal
 
-pub returns-in-Ok : goal.returns-in-Ok
-returns-in-Ok c =
-    let is = c.in-Ok.ensures in
-    record {
-      pair = ap or_closed is;
-      course = ap (λ a. or_nothing a (burst c.args.count)) is;
-      sound = burst_keeps c.args.count c.in-Ok.pair is;
-    }
+pub invariant_of-result : goal.invariant_of-result
+invariant_of-result c = record { keeps = burst_keeps c.args.count c.in-Ok.pair c.in-Ok.ensures }
 
-pub returns-in-Err : goal.returns-in-Err
-returns-in-Err c =
-    let is = c.in-Err.ensures in
-    record {
-      pair = c.zero.ensures ∙ ap or_closed is;
-      course = burst_closed ∙ ap (λ a. or_nothing a (burst c.args.count)) is;
-      sound = subst (KeepsPair c.zero.result) (sym burst_closed) (keeps_nothing c.zero.result c.zero.ensures);
-    }
+pub returns-clause-course : goal.returns-clause-course
+returns-clause-course c = ap (λ a. or_nothing a (burst c.args.count)) c.in-Ok.ensures
+
+pub returns-in_default-clause-course : goal.returns-in_default-clause-course
+returns-in_default-clause-course c = ap burst c.closed.ensures.course ∙ burst_closed ∙ ap (λ a. or_nothing a (burst c.args.count)) c.in_default.ensures
