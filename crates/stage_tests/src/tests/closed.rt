@@ -11,7 +11,7 @@ use tables::Table;
 
 // Whether a stage is closed, with a frame of 2.
 fn is_closed<T: Stage>(stage: &mut T) -> bool
-    ensures { Decides result (IsOkAnd (look (T.Flow.views stage.old) 0) (λ b. (b.wait ≡ 0) × (b.delay ≡ 0)) × (look (T.Flow.views stage.old) 1 ≡ Err 0) × (row (T.Flow.pair stage.old).most.frame (at (T.Flow.pair stage.old).most) ≡ 0 ∷ 0 ∷ []) × (row (T.Flow.pair stage.old).least.frame (at (T.Flow.pair stage.old).least) ≡ 0 ∷ 0 ∷ []) × ((T.Stage.top stage.old).arriving ≡ 0) × ((T.Stage.top stage.old).waits 0 ≡ 0) × ((k : ℕ) → k < 3 → ((T.Stage.top stage.old).passed k ≡ (slice_index_or ((0, 0) ∷ (0, 0) ∷ (0, 0) ∷ []) k (0, 0)).0) × ((T.Stage.top stage.old).waits (k + 1) ≡ (slice_index_or ((0, 0) ∷ (0, 0) ∷ (0, 0) ∷ []) k (0, 0)).1))) }
+    ensures { Decides result (IsOkAnd (look (T.Flow.views stage.old) 0) (λ b. (b.wait ≡ 0) × (b.delay ≡ 0)) × (look (T.Flow.views stage.old) 1 ≡ Err 0) × (row (T.Flow.pair stage.old).most.frame (at (T.Flow.pair stage.old).most) ≡ 0 ∷ 0 ∷ []) × (row (T.Flow.pair stage.old).least.frame (at (T.Flow.pair stage.old).least) ≡ 0 ∷ 0 ∷ []) × ((T.Stage.top stage.old).arriving ≡ 0) × ((T.Stage.top stage.old).waits 0 ≡ 0) × ((k : ℕ) → k < 3 → ((T.Stage.top stage.old).passed k ≡ (slice_index_or {A = ℕ × ℕ} ((0, 0) ∷ (0, 0) ∷ (0, 0) ∷ []) k (0, 0)).0) × ((T.Stage.top stage.old).waits (k + 1) ≡ (slice_index_or {A = ℕ × ℕ} ((0, 0) ∷ (0, 0) ∷ (0, 0) ∷ []) k (0, 0)).1))) }
 {
     stands(stage, 0, 0, 0)
         && is_past(stage, 1, 0)
