@@ -33,8 +33,8 @@ impl<P: Stage + Drop> Running<P> {
         log.passed[at] = counts.passed;
         log.waiting[at] = counts.waiting;
         self.ticks += 1;
-        self.arrived += counts.arrived as u64;
-        self.passed += counts.passed as u64;
+        self.arrived += u64::from(counts.arrived);
+        self.passed += u64::from(counts.passed);
         self.greatest = self.greatest.max(counts.waiting);
         counts
     }

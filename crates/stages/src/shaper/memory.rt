@@ -5,12 +5,8 @@ ghost use Rattle.tables.specs.Ranges.{smallest};
 pub(crate) fn put_first(past: &mut [u32; 64], count: u32)
     ensures { past.new ≡ count ∷ take 63 past.old }
 {
-    let mut carried = count;
-    for i in 0..64 {
-        let old = past[i];
-        past[i] = carried;
-        carried = old;
-    }
+    past.rotate_right(1);
+    past[0] = count;
 }
 
 // What a shaping table with these entries still allows, after what was passed lately.
@@ -19,12 +15,11 @@ pub(crate) fn room(entries: &[u32], past: &[u32; 64]) -> u64
     requires few { length entries.now ≤ 64 }
     ensures { result ≡ smallest (length entries.now - 1) (λ k. slice_index entries.now k - total (take k past.now)) }
 {
-    let mut room = entries[0] as u64;
-    let mut passed: u64 = 0;
-    for k in 1..entries.len() {
-        passed += past[k - 1] as u64;
-        let entry = entries[k] as u64;
-        room = room.min(entry.saturating_sub(passed));
+    let mut room = u64::from(entries[0]);
+    let mut passed = 0;
+    for (k, &entry) in entries.iter().enumerate() {
+        room = room.min(u64::from(entry).saturating_sub(passed));
+        passed += u64::from(past[k]);
     }
     room
 }

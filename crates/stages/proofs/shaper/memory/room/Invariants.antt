@@ -6,5 +6,5 @@ use Rattle.stages.proofs.shaper.memory.room.Given as goal
 abbrev pub invariant-loop-k : goal.invariant-loop-k
 invariant-loop-k l =
     (l.room ≡ smallest (l.k - 1) (λ k. get_or l.entries k 0 - total (take k l.past)))
-    × (l.passed ≡ total (take (l.k - 1) l.past))
+    × (l.passed ≡ total (take l.k l.past))
     × (l.passed ≤ 2 ^ 32 * l.k)
