@@ -1,16 +1,14 @@
 // The clocked flow.
-ghost use Rattle.std.specs.Prelude.{◌≡◌, ℕ, ◌+◌, ◌<◌, ◌≤◌, true, [], is_ok};
+ghost use Rattle.std.specs.Prelude.{◌≡◌, ℕ, ◌+◌, ◌<◌, ◌≤◌, true, is_ok};
 ghost use Rattle.tables.specs.Bottoms.{clocked_answer, up};
 ghost use Rattle.tables.specs.Courses.{sum};
-ghost use Rattle.tables.specs.Tables.{curves, paired};
+ghost use Rattle.tables.specs.Tables.{curves};
 ghost use Rattle.courses.specs.Bottoms.{clocked};
 ghost use Rattle.flows.specs.Checks.{or_closed, or_nothing, verdict};
 ghost use Rattle.flows.specs.States.{clock};
-ghost use Rattle.flows.specs.Views.{KeepsPair};
 
-use crate::bounds::StageBounds;
-use crate::flow::Flow;
-use tables::{Pair, Refusal, clocked_pair};
+use crate::bottom::{Bottom, Course};
+use tables::{Refusal, clocked_pair};
 
 /// By the end of tick t it has handed over (t + jitter) / period, rounded up.
 #[derive(Clone, Copy)]
@@ -22,9 +20,7 @@ pub struct Clocked {
     phase: u32,
     // The count of this tick.
     count: u32,
-    pair: Pair,
     ghost inside: { phase < period },
-    ghost keeps: { KeepsPair pair (clock period beat phase count) },
 }
 
 impl Clocked {
@@ -38,54 +34,33 @@ impl Clocked {
     }
 
     /// The flow with that period and jitter, closed where the check refuses.
-    pub fn build(frame: usize, period: u32, jitter: u32) -> Clocked
+    pub fn build(frame: usize, period: u32, jitter: u32) -> Bottom<Clocked>
         ensures pair { curves result.pair ≡ or_closed (clocked_answer frame period jitter) }
-        ensures course { clock result.period result.beat result.phase result.count ≡ or_nothing (clocked_answer frame period jitter) (clocked period jitter) }
-        ensures handed { is_ok (clocked_answer frame period jitter) ≡ true → (t : ℕ) → 1 ≤ t → sum (clock result.period result.beat result.phase result.count) t ≡ up period (t + jitter) }
+        ensures course { clock result.course.period result.course.beat result.course.phase result.course.count ≡ or_nothing (clocked_answer frame period jitter) (clocked period jitter) }
+        ensures handed { is_ok (clocked_answer frame period jitter) ≡ true → (t : ℕ) → 1 ≤ t → sum (clock result.course.period result.course.beat result.course.phase result.course.count) t ≡ up period (t + jitter) }
     {
         let Ok(pair) = clocked_pair(frame, period, jitter) else {
-            return Clocked::closed();
+            return Bottom::closed(Clocked {
+                period: 1,
+                beat: 0,
+                phase: 0,
+                count: 0,
+            });
         };
-        Clocked {
+        let course = Clocked {
             period,
             beat: 1,
             phase: jitter % period,
             count: (1 + jitter + (period - 1)) / period,
-            pair,
-        }
-    }
-
-    // A flow that hands over nothing.
-    fn closed() -> Clocked
-        ensures pair { curves result.pair ≡ paired 1 (λ _. 0) (λ _. 0) }
-        ensures course { clock result.period result.beat result.phase result.count ≡ (λ _. 0) }
-    {
-        Clocked {
-            period: 1,
-            beat: 0,
-            phase: 0,
-            count: 0,
-            pair: Pair::zero(),
-        }
+        };
+        Bottom { course, pair }
     }
 }
 
-impl Flow for Clocked {
-    ghost pair = { λ s. s.pair };
+impl Course for Clocked {
+    ghost counts = { λ s. clock s.period s.beat s.phase s.count };
 
-    ghost course = { λ s. clock s.period s.beat s.phase s.count };
-
-    ghost views = { λ _. [] };
-
-    ghost keeps = { λ s. s.keeps };
-
-    ghost viewed = { λ _. tt };
-
-    fn pair(&self) -> &Pair {
-        &self.pair
-    }
-
-    fn draw(&mut self) -> u32 {
+    fn next(&mut self) -> u32 {
         let count = self.count;
         if self.phase + 1 < self.period {
             self.phase += 1;
@@ -95,9 +70,5 @@ impl Flow for Clocked {
             self.count = self.beat;
         }
         count
-    }
-
-    fn bounds(&self, place: usize) -> Result<StageBounds, usize> {
-        Err(place)
     }
 }

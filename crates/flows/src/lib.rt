@@ -2,6 +2,7 @@
 #![tactic(auto)]
 
 mod answers;
+mod bottom;
 mod bounds;
 mod clocked;
 mod flow;
@@ -12,6 +13,7 @@ mod steady;
 mod tests;
 
 pub use answers::number_given;
+pub use bottom::{Bottom, Course};
 pub use bounds::StageBounds;
 pub use clocked::Clocked;
 pub use flow::Flow;

@@ -1,13 +1,11 @@
 // The recorded flow.
-ghost use Rattle.std.specs.Prelude.{◌≡◌, []};
+ghost use Rattle.std.specs.Prelude.{◌≡◌};
 ghost use Rattle.tables.specs.Courses.{later, recorded};
 ghost use Rattle.tables.specs.Makes.{answer};
-ghost use Rattle.tables.specs.Tables.{curve, curves, paired};
+ghost use Rattle.tables.specs.Tables.{curve, curves};
 ghost use Rattle.flows.specs.Checks.{or_closed, or_nothing, recorded_answer, verdict};
-ghost use Rattle.flows.specs.Views.{KeepsPair};
 
-use crate::bounds::StageBounds;
-use crate::flow::Flow;
+use crate::bottom::{Bottom, Course};
 use tables::{Pair, Refusal, Table, keeps_most};
 
 /// The counts of a list in order, and then nothing.
@@ -16,8 +14,6 @@ pub struct Recorded<'a> {
     list: &'a [u32],
     // The place of the count of this tick.
     place: usize,
-    pair: Pair,
-    ghost keeps: { KeepsPair pair (later place (recorded list.now)) },
 }
 
 // The pair of a list under a most table.
@@ -41,57 +37,29 @@ impl<'a> Recorded<'a> {
     }
 
     /// The flow with this list and most table and nothing at the least, closed where the check refuses.
-    pub fn build(list: &'a [u32], most: &Table) -> Recorded<'a>
+    pub fn build(list: &'a [u32], most: &Table) -> Bottom<Recorded<'a>>
         ensures pair { curves result.pair ≡ or_closed (recorded_answer (curve most.now) list.now) }
-        ensures course { later result.place (recorded result.list.now) ≡ or_nothing (recorded_answer (curve most.now) list.now) (recorded list.now) }
+        ensures course { later result.course.place (recorded result.course.list.now) ≡ or_nothing (recorded_answer (curve most.now) list.now) (recorded list.now) }
     {
         let Ok(pair) = recorded_pair(list, most) else {
-            return Recorded::closed(list);
+            return Bottom::closed(Recorded {
+                list,
+                place: list.len(),
+            });
         };
-        Recorded {
-            list,
-            place: 0,
-            pair,
-        }
-    }
-
-    // A flow that hands over nothing: it stands behind its list.
-    fn closed(list: &'a [u32]) -> Recorded<'a>
-        ensures pair { curves result.pair ≡ paired 1 (λ _. 0) (λ _. 0) }
-        ensures course { later result.place (recorded result.list.now) ≡ (λ _. 0) }
-    {
-        Recorded {
-            list,
-            place: list.len(),
-            pair: Pair::zero(),
-        }
+        let course = Recorded { list, place: 0 };
+        Bottom { course, pair }
     }
 }
 
-impl<'a> Flow for Recorded<'a> {
-    ghost pair = { λ s. s.pair };
+impl<'a> Course for Recorded<'a> {
+    ghost counts = { λ s. later s.place (recorded s.list.now) };
 
-    ghost course = { λ s. later s.place (recorded s.list.now) };
-
-    ghost views = { λ _. [] };
-
-    ghost keeps = { λ s. s.keeps };
-
-    ghost viewed = { λ _. tt };
-
-    fn pair(&self) -> &Pair {
-        &self.pair
-    }
-
-    fn draw(&mut self) -> u32 {
+    fn next(&mut self) -> u32 {
         let Some(&count) = self.list.get(self.place) else {
             return 0;
         };
         self.place += 1;
         count
-    }
-
-    fn bounds(&self, place: usize) -> Result<StageBounds, usize> {
-        Err(place)
     }
 }

@@ -1,16 +1,14 @@
 // The slotted flow.
-ghost use Rattle.std.specs.Prelude.{◌≡◌, ℕ, ◌<◌, ◌≤◌, [], length, slice_index};
+ghost use Rattle.std.specs.Prelude.{◌≡◌, ℕ, ◌<◌, ◌≤◌, length, slice_index};
 ghost use Rattle.tables.specs.Bottoms.{slotted_answer};
 ghost use Rattle.tables.specs.Courses.{slotted, recorded};
 ghost use Rattle.tables.specs.Limits.{longest};
-ghost use Rattle.tables.specs.Tables.{curves, paired};
+ghost use Rattle.tables.specs.Tables.{curves};
 ghost use Rattle.flows.specs.Checks.{or_closed, or_nothing, verdict};
 ghost use Rattle.flows.specs.States.{turning};
-ghost use Rattle.flows.specs.Views.{KeepsPair};
 
-use crate::bounds::StageBounds;
-use crate::flow::Flow;
-use tables::{Pair, Refusal, slotted_pair};
+use crate::bottom::{Bottom, Course};
+use tables::{Refusal, slotted_pair};
 
 /// The counts of a list in turn, for ever.
 #[derive(Clone, Copy)]
@@ -20,10 +18,8 @@ pub struct Slotted {
     frame: usize,
     // The place of the count of this tick.
     place: usize,
-    pair: Pair,
     ghost few: { frame ≤ longest },
     ghost inside: { place < frame },
-    ghost keeps: { KeepsPair pair (turning frame counts place) },
 }
 
 // The counts at the front of an array.
@@ -46,51 +42,30 @@ impl Slotted {
     }
 
     /// The flow with these counts, closed where the check refuses.
-    pub fn build(counts: &[u32]) -> Slotted
+    pub fn build(counts: &[u32]) -> Bottom<Slotted>
         ensures pair { curves result.pair ≡ or_closed (slotted_answer counts.now) }
-        ensures course { turning result.frame result.counts result.place ≡ or_nothing (slotted_answer counts.now) (slotted (length counts.now) (recorded counts.now)) }
+        ensures course { turning result.course.frame result.course.counts result.course.place ≡ or_nothing (slotted_answer counts.now) (slotted (length counts.now) (recorded counts.now)) }
     {
         let Ok(pair) = slotted_pair(counts) else {
-            return Slotted::closed();
+            return Bottom::closed(Slotted {
+                counts: [0; 64],
+                frame: 1,
+                place: 0,
+            });
         };
-        Slotted {
+        let course = Slotted {
             counts: laid_out(counts),
             frame: counts.len(),
             place: 0,
-            pair,
-        }
-    }
-
-    // A flow that hands over nothing.
-    fn closed() -> Slotted
-        ensures pair { curves result.pair ≡ paired 1 (λ _. 0) (λ _. 0) }
-        ensures course { turning result.frame result.counts result.place ≡ (λ _. 0) }
-    {
-        Slotted {
-            counts: [0; 64],
-            frame: 1,
-            place: 0,
-            pair: Pair::zero(),
-        }
+        };
+        Bottom { course, pair }
     }
 }
 
-impl Flow for Slotted {
-    ghost pair = { λ s. s.pair };
+impl Course for Slotted {
+    ghost counts = { λ s. turning s.frame s.counts s.place };
 
-    ghost course = { λ s. turning s.frame s.counts s.place };
-
-    ghost views = { λ _. [] };
-
-    ghost keeps = { λ s. s.keeps };
-
-    ghost viewed = { λ _. tt };
-
-    fn pair(&self) -> &Pair {
-        &self.pair
-    }
-
-    fn draw(&mut self) -> u32 {
+    fn next(&mut self) -> u32 {
         let count = self.counts[self.place];
         if self.place + 1 < self.frame {
             self.place += 1;
@@ -98,9 +73,5 @@ impl Flow for Slotted {
             self.place = 0;
         }
         count
-    }
-
-    fn bounds(&self, place: usize) -> Result<StageBounds, usize> {
-        Err(place)
     }
 }

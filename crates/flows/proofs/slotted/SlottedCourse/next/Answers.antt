@@ -1,19 +1,7 @@
 use Rattle.std.proofs.Common.{arith}
 use Rattle.tables.specs.Courses.{recorded, slotted}
-use Rattle.flows.proofs.Kept.{keeps_next}
 use Rattle.flows.proofs.Laters.{later_more, turning_now, turning_round}
-use Rattle.flows.proofs.slotted.SlottedFlow.draw.Goals as goal
-
-pub invariant_of-self : goal.invariant_of-self
-invariant_of-self c =
-    let s = c.args.self.now in
-    record { few = s.few; inside = omega arith; keeps = keeps_next s.pair (later_more (slotted s.frame (recorded s.counts)) s.place) s.keeps }
-
-pub invariant_of-self-else-self : goal.invariant_of-self-else-self
-invariant_of-self-else-self c =
-    let s = c.args.self.now in
-    let inside = s.inside in
-    record { few = s.few; inside = omega arith; keeps = keeps_next s.pair (turning_round s.frame s.counts s.place (omega arith)) s.keeps }
+use Rattle.flows.proofs.slotted.SlottedCourse.next.Goals as goal
 
 pub returns-then-self-clause-count : goal.returns-then-self-clause-count
 returns-then-self-clause-count c = let s = c.args.self.now in turning_now s.frame s.counts s.place s.inside
