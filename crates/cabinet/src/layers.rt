@@ -12,8 +12,34 @@ use flows::{Clocked, Flow, Recorded, Slotted, Steady};
 use stages::{Join, Server};
 use tables::{Table, clocked_pair};
 
+// The traffic of the cabinet.
+pub(crate) type Traffic<'a, C> = Join<Join<Join<C, C>, Join<C, C>>, Join<Clocked, Recorded<'a>>>;
+
 // Every table, and every round of the bus, is this long.
 pub(crate) const FRAME: usize = 32;
+
+// One of a kind for each of the four chargers.
+#[derive(Clone, Copy)]
+pub(crate) struct Four<T> {
+    pub first: T,
+    pub second: T,
+    pub third: T,
+    pub fourth: T,
+}
+
+impl<T: Copy> Four<T> {
+    // The same for each.
+    pub(crate) fn alike(each: T) -> Four<T>
+        ensures { result ≡ record { first = each; second = each; third = each; fourth = each } }
+    {
+        Four {
+            first: each,
+            second: each,
+            third: each,
+            fourth: each,
+        }
+    }
+}
 
 // A charger: one cycle in each round, up to two ticks early, and the first at power-on.
 pub(crate) fn charger() -> Clocked
@@ -45,6 +71,24 @@ pub(crate) fn others<'a>(door: &'a [u32], most: &Table) -> Join<Clocked, Recorde
     ensures fresh { All Idle (join_views clocked recorded result) }
 {
     Join::build(temperature(), Recorded::build(door, most))
+}
+
+// All that the bus carries: the four chargers, and behind them the others.
+pub(crate) fn traffic<'a, C: Flow + Copy + Drop>(
+    chargers: &Four<C>,
+    door: &'a [u32],
+    most: &Table,
+) -> Traffic<'a, C>
+    requires first { C.Flow.sound chargers.now.first × All Idle (C.Flow.views chargers.now.first) }
+    requires second { C.Flow.sound chargers.now.second × All Idle (C.Flow.views chargers.now.second) }
+    requires third { C.Flow.sound chargers.now.third × All Idle (C.Flow.views chargers.now.third) }
+    requires fourth { C.Flow.sound chargers.now.fourth × All Idle (C.Flow.views chargers.now.fourth) }
+    ensures sound { ⟦<Traffic<'a, C> as Flow>⟧.sound result }
+    ensures fresh { All Idle (⟦<Traffic<'a, C> as Flow>⟧.views result) }
+{
+    let low = Join::build(chargers.first, chargers.second);
+    let high = Join::build(chargers.third, chargers.fourth);
+    Join::build(Join::build(low, high), others(door, most))
 }
 
 // The bus: two messages in every fourth tick.

@@ -1,7 +1,7 @@
 use Rattle.std.proofs.Common.{ap, ◌∙◌, arith}
 use Rattle.runs.specs.declared.states.Sums.{Sums}
 use Rattle.cabinet.proofs.Watched.{waited, first_in}
-use Rattle.cabinet.proofs.watches.carry_all.Goals as goal
+use Rattle.cabinet.proofs.watches.run.Goals as goal
 
 pub returns : goal.returns
 returns g c =
