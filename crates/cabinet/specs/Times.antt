@@ -16,8 +16,8 @@ abbrev pub handed : Sheet → ℕ → ℕ
 handed s t = slice_index s.door t + slice_index s.temperature t + slice_index s.packs.first t + slice_index s.packs.second t + slice_index s.packs.third t + slice_index s.packs.fourth t
 
 -- the longest time from a message's coming in to its going out, and 0 where there is none
-abbrev pub longest_of : List ℕ → List ℕ → ℕ
-longest_of ins outs = fold max 0 (map (λ (p : ℕ × ℕ). p.1 - p.0) (zip ins outs))
+abbrev pub longest_stay : List ℕ → List ℕ → ℕ
+longest_stay ins outs = fold max 0 (map (λ (p : ℕ × ℕ). p.1 - p.0) (zip ins outs))
 
 -- whether a message counts a cycle of a pack
 abbrev pub cycle_counted : Sender → Bool
@@ -35,5 +35,5 @@ abbrev pub message_text : Message → List ℕ
 message_text m = text_of m.sender m.number
 
 -- whether a message counts a cycle and took longer than a timer waits
-abbrev pub late : ℕ → Sent → ℕ → Bool
-late timer s until = cycle_counted s.message.sender && nat_lt timer (until - s.since)
+abbrev pub outlasts : ℕ → Sent → ℕ → Bool
+outlasts timer s until = cycle_counted s.message.sender && nat_lt timer (until - s.since)

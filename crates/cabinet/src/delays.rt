@@ -1,7 +1,7 @@
 // How long messages take.
 ghost use Rattle.std.specs.Prelude.{◌≡◌, count_by, IfOk};
 ghost use Rattle.std.specs.List.{zip};
-ghost use Rattle.cabinet.specs.Times.{ticks_of, longest_of, cycle_counted, late};
+ghost use Rattle.cabinet.specs.Times.{ticks_of, longest_stay, cycle_counted, outlasts};
 
 use crate::messages::Sent;
 use std::alloc::{AllocError, Global};
@@ -20,7 +20,7 @@ pub(crate) fn ticks_of(heap: Global, counts: &[u32]) -> Result<Vec<usize>, Alloc
 
 // The longest time between coming in and going out.
 pub(crate) fn longest(ins: &[usize], outs: &[usize]) -> usize
-    ensures { result ≡ longest_of ins.now outs.now }
+    ensures { result ≡ longest_stay ins.now outs.now }
 {
     ins.iter()
         .zip(outs)
@@ -30,7 +30,7 @@ pub(crate) fn longest(ins: &[usize], outs: &[usize]) -> usize
 
 // How many cycle increments took longer than a timer waits: each of them is sent again, and counted twice.
 pub(crate) fn counted_twice(sent: &[Sent], outs: &[usize], timer: usize) -> usize
-    ensures { result ≡ count_by (λ p. late timer p.0 p.1) (zip sent.now outs.now) }
+    ensures { result ≡ count_by (λ p. outlasts timer p.0 p.1) (zip sent.now outs.now) }
 {
     sent.iter()
         .zip(outs)

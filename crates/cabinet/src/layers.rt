@@ -52,10 +52,7 @@ pub(crate) fn charger() -> Clocked
 pub(crate) fn charger_most() -> Option<Table>
     ensures { IfSome result (λ t. t.frame ≡ 32) }
 {
-    match clocked_pair(FRAME, 32, 2) {
-        Ok(pair) => Some(pair.most),
-        Err(_) => None,
-    }
+    Some(clocked_pair(FRAME, 32, 2).ok()?.most)
 }
 
 // The temperature, once in eight ticks, up to three ticks early.

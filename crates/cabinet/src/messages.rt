@@ -1,7 +1,7 @@
 // The messages on the bus.
 ghost use Rattle.std.specs.Prelude.{◌≡◌, ℕ, ◌+◌, ◌<◌, Some, length, slice_index, IfOk, OnOk};
 ghost use Rattle.tables.specs.Courses.{sum};
-ghost use Rattle.cabinet.specs.Times.{handed, cycle_counted, late, message_text};
+ghost use Rattle.cabinet.specs.Times.{handed, cycle_counted, outlasts, message_text};
 
 use crate::sheets::{LONG, Row, Sheet};
 use std::alloc::{AllocError, Global};
@@ -63,7 +63,7 @@ pub(crate) const NOTHING_SENT: Sent = Sent {
 impl Sent {
     // Whether it counts a cycle and took longer than a timer waits.
     pub(crate) fn is_late(&self, until: usize, timer: usize) -> bool
-        ensures { result ≡ late timer self.now until }
+        ensures { result ≡ outlasts timer self.now until }
     {
         self.message.counts_cycle() && timer < until.saturating_sub(self.since)
     }
