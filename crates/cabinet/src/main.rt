@@ -6,7 +6,6 @@ use anyhow::{Context, Result};
 use fits::Promised;
 use flows::Recorded;
 use layers::{Four, bus, charger, charger_most, controller, temperature, traffic};
-use messages::NOTHING_SENT;
 use runs::{Fitted, Log};
 use scenes::{Tables, door_and_shaping, play};
 use sheets::{LONG, Row, Sheet, beats, draws};
@@ -50,7 +49,6 @@ fn main(rt: HostRuntime) -> Result<()> {
         passed: &mut passed,
         waiting: &mut waiting,
     };
-    let mut out = [NOTHING_SENT; LONG];
 
     let bench = Sheet {
         door,
@@ -68,7 +66,7 @@ fn main(rt: HostRuntime) -> Result<()> {
         third: Recorded::build(&bench.packs.third, &most),
         fourth: Recorded::build(&bench.packs.fourth, &most),
     };
-    let seen = play(rt.alloc(), &chargers, &bench, &tables, &mut log, &mut out)?;
+    let seen = play(rt.alloc(), &chargers, &bench, &tables, &mut log)?;
     story::bench(&rt, &seen, &promised)?;
 
     let mains = Sheet {
@@ -76,10 +74,9 @@ fn main(rt: HostRuntime) -> Result<()> {
         ..bench
     };
     let chargers = Four::alike(charger());
-    let scene = play(rt.alloc(), &chargers, &mains, &tables, &mut log, &mut out)?;
+    let scene = play(rt.alloc(), &chargers, &mains, &tables, &mut log)?;
     story::mains(&rt, &scene, &promised)?;
     story::show_log(&rt, &log)?;
-    let sent = &out[..scene.out];
-    story::show_messages(&rt, log.passed, sent)?;
-    story::compare(&rt, log.passed, sent, seen.way, timer)
+    story::show_messages(&rt, log.passed, &scene.sent)?;
+    story::compare(&rt, log.passed, &scene.sent, seen.way, timer)
 }

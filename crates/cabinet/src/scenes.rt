@@ -5,7 +5,7 @@ ghost use Rattle.flows.specs.Views.{All, Idle};
 use crate::delays::{longest, ticks_of};
 use crate::layers::{FRAME, Four, bus, controller, traffic};
 use crate::messages::{NOTHING_SENT, Sent, line_up};
-use crate::sheets::Sheet;
+use crate::sheets::{LONG, Sheet};
 use crate::watches::{Seen, TICKS, carry_all, watch};
 use flows::Flow;
 use runs::Log;
@@ -34,15 +34,15 @@ pub(crate) fn door_and_shaping() -> Option<Tables>
     })
 }
 
-// What was seen: at the bus, at the controller, at the shaper, and on the whole way; how many messages came
-// out, and how many calls were refused.
-#[derive(Clone, Copy)]
+// What was seen: at the bus, at the controller, at the shaper, and on the whole way; the messages that came
+// out, in order, and how many calls were refused.
+#[derive(Drop)]
 pub(crate) struct Scene {
     pub bus: Seen,
     pub controller: Seen,
     pub shaper: Seen,
     pub way: usize,
-    pub out: usize,
+    pub sent: Vec<Sent>,
     pub refused: usize,
 }
 
@@ -53,20 +53,19 @@ pub(crate) fn first_of(list: &[u32], count: usize) -> &[u32]
     list.get(..count).unwrap_or(list)
 }
 
-// Runs the cabinet with messages, each with the tick of its arrival at the bus; they come out in `out`.
+// Runs the cabinet with messages, each with the tick of its arrival at the bus.
 pub(crate) fn play<C: Flow + Copy + Drop>(
     heap: Global,
     chargers: &Four<C>,
     sheet: &Sheet,
     tables: &Tables,
     log: &mut Log,
-    out: &mut [Sent],
 ) -> Result<Scene, AllocError>
     requires first { C.Flow.sound chargers.now.first × All Idle (C.Flow.views chargers.now.first) }
     requires second { C.Flow.sound chargers.now.second × All Idle (C.Flow.views chargers.now.second) }
     requires third { C.Flow.sound chargers.now.third × All Idle (C.Flow.views chargers.now.third) }
     requires fourth { C.Flow.sound chargers.now.fourth × All Idle (C.Flow.views chargers.now.fourth) }
-    ensures { IfOk result (λ s. s.out ≤ length out.new) }
+    ensures { IfOk result (λ s. length s.sent.items ≤ 352) }
 {
     let at_bus = watch(heap, bus(traffic(chargers, &sheet.door, &tables.door)), log)?;
     let came = ticks_of(heap, log.arrived)?;
@@ -74,7 +73,7 @@ pub(crate) fn play<C: Flow + Copy + Drop>(
     let below = bus(traffic(chargers, &sheet.door, &tables.door));
     let at_controller = watch(heap, controller(below), log)?;
 
-    let sent: Vec<Sent> = line_up(heap, sheet)?
+    let messages: Vec<Sent> = line_up(heap, sheet)?
         .iter()
         .zip(&came)
         .map(|(message, since)| Sent {
@@ -84,14 +83,14 @@ pub(crate) fn play<C: Flow + Copy + Drop>(
         .collect(heap)?;
     let below = bus(traffic(chargers, &sheet.door, &tables.door));
     let cabinet = Shaper::build(controller(below), tables.shaping);
-    let carried = carry_all(cabinet, log, &mut [NOTHING_SENT; 16], &sent, out);
+    let mut slots = [NOTHING_SENT; 16];
+    let mut out = [NOTHING_SENT; LONG];
+    let carried = carry_all(cabinet, log, &mut slots, &messages, &mut out);
+    let sent = out[..carried.out].to_vec(heap)?;
 
     let ins = ticks_of(heap, first_of(log.arrived, TICKS))?;
     let outs = ticks_of(heap, first_of(log.passed, TICKS))?;
-    let since: Vec<usize> = out[..carried.out]
-        .iter()
-        .map(|sent| sent.since)
-        .collect(heap)?;
+    let since: Vec<usize> = sent.iter().map(|sent| sent.since).collect(heap)?;
     Ok(Scene {
         bus: at_bus,
         controller: at_controller,
@@ -100,7 +99,7 @@ pub(crate) fn play<C: Flow + Copy + Drop>(
             delay: longest(&ins, &outs),
         },
         way: longest(&since, &outs),
-        out: carried.out,
+        sent,
         refused: carried.refused,
     })
 }
