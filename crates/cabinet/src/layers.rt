@@ -1,12 +1,6 @@
 // The stages of the cabinet, from the chargers up to the shaper.
 ghost use Rattle.std.specs.Prelude.{◌≡◌, IfSome};
 ghost use Rattle.flows.specs.Views.{All, Idle};
-ghost use Rattle.flows.specs.contracts.clocked.ClockedFlow.TheImpl.{ghosts as clocked};
-ghost use Rattle.flows.specs.contracts.recorded.RecordedFlow.TheImpl.{ghosts as recorded};
-ghost use Rattle.flows.specs.contracts.slotted.SlottedFlow.TheImpl.{ghosts as slotted};
-ghost use Rattle.flows.specs.contracts.steady.SteadyFlow.TheImpl.{ghosts as steady};
-ghost use Rattle.stages.specs.Joins.{join_views, JoinSound};
-ghost use Rattle.stages.specs.Servers.{server_views, ServerSound};
 
 use flows::{Clocked, Flow, Recorded, Slotted, Steady};
 use stages::{Join, Server};
@@ -43,7 +37,7 @@ impl<T: Copy> Four<T> {
 
 // A charger: one cycle in each round, up to two ticks early, and the first at power-on.
 pub(crate) fn charger() -> Clocked
-    ensures { clocked.sound result }
+    ensures { ⟦<Clocked as Flow>⟧.sound result }
 {
     Clocked::build(FRAME, 32, 2)
 }
@@ -57,15 +51,15 @@ pub(crate) fn charger_most() -> Option<Table>
 
 // The temperature, once in eight ticks, up to three ticks early.
 pub(crate) fn temperature() -> Clocked
-    ensures { clocked.sound result }
+    ensures { ⟦<Clocked as Flow>⟧.sound result }
 {
     Clocked::build(FRAME, 8, 3)
 }
 
 // The temperature, and the door as it was recorded.
 pub(crate) fn others<'a>(door: &'a [u32], most: &Table) -> Join<Clocked, Recorded<'a>>
-    ensures sound { JoinSound clocked recorded result }
-    ensures fresh { All Idle (join_views clocked recorded result) }
+    ensures sound { ⟦<Join<Clocked, Recorded<'a>> as Flow>⟧.sound result }
+    ensures fresh { All Idle (⟦<Join<Clocked, Recorded<'a>> as Flow>⟧.views result) }
 {
     Join::build(temperature(), Recorded::build(door, most))
 }
@@ -92,8 +86,8 @@ pub(crate) fn traffic<'a, C: Flow + Copy + Drop>(
 pub(crate) fn bus<E: Flow + Drop>(traffic: E) -> Server<E, Slotted>
     requires sound { E.Flow.sound traffic }
     requires fresh { All Idle (E.Flow.views traffic) }
-    ensures sound { ServerSound E.Flow slotted result }
-    ensures fresh { All Idle (server_views E.Flow slotted result) }
+    ensures sound { ⟦<Server<E, Slotted> as Flow>⟧.sound result }
+    ensures fresh { All Idle (⟦<Server<E, Slotted> as Flow>⟧.views result) }
 {
     let slots = [
         0, 0, 0, 2, 0, 0, 0, 2, 0, 0, 0, 2, 0, 0, 0, 2, 0, 0, 0, 2, 0, 0, 0, 2, 0, 0, 0, 2, 0, 0,
@@ -106,8 +100,8 @@ pub(crate) fn bus<E: Flow + Drop>(traffic: E) -> Server<E, Slotted>
 pub(crate) fn controller<E: Flow + Drop>(bus: E) -> Server<E, Steady>
     requires sound { E.Flow.sound bus }
     requires fresh { All Idle (E.Flow.views bus) }
-    ensures sound { ServerSound E.Flow steady result }
-    ensures fresh { All Idle (server_views E.Flow steady result) }
+    ensures sound { ⟦<Server<E, Steady> as Flow>⟧.sound result }
+    ensures fresh { All Idle (⟦<Server<E, Steady> as Flow>⟧.views result) }
 {
     Server::build(bus, Steady::build(FRAME, 1))
 }
