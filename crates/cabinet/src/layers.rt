@@ -1,6 +1,7 @@
 // The stages of the cabinet, from the chargers up to the shaper.
 ghost use Rattle.std.specs.Prelude.{◌≡◌, IfSome};
 ghost use Rattle.flows.specs.Views.{All, Idle};
+ghost use Rattle.cabinet.specs.Fours.{Each};
 
 use flows::{Clocked, Flow, Recorded, Slotted, Steady};
 use stages::{Join, Server};
@@ -70,10 +71,8 @@ pub(crate) fn traffic<'a, C: Flow + Copy + Drop>(
     door: &'a [u32],
     most: &Table,
 ) -> Traffic<'a, C>
-    requires first { C.Flow.sound chargers.now.first × All Idle (C.Flow.views chargers.now.first) }
-    requires second { C.Flow.sound chargers.now.second × All Idle (C.Flow.views chargers.now.second) }
-    requires third { C.Flow.sound chargers.now.third × All Idle (C.Flow.views chargers.now.third) }
-    requires fourth { C.Flow.sound chargers.now.fourth × All Idle (C.Flow.views chargers.now.fourth) }
+    requires sound { Each C.Flow.sound chargers.now }
+    requires fresh { Each (λ c. All Idle (C.Flow.views c)) chargers.now }
     ensures sound { ⟦<Traffic<'a, C> as Flow>⟧.sound result }
     ensures fresh { All Idle (⟦<Traffic<'a, C> as Flow>⟧.views result) }
 {

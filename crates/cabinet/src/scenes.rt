@@ -1,6 +1,7 @@
 // The cabinet in one mode of its chargers.
 ghost use Rattle.std.specs.Prelude.{◌≡◌, ◌≤◌, length, take, IfSome, IfOk};
 ghost use Rattle.flows.specs.Views.{All, Idle};
+ghost use Rattle.cabinet.specs.Fours.{Each};
 
 use crate::delays::{longest, ticks_of};
 use crate::layers::{FRAME, Four, bus, controller, traffic};
@@ -61,10 +62,8 @@ pub(crate) fn play<C: Flow + Copy + Drop>(
     tables: &Tables,
     log: &mut Log,
 ) -> Result<Scene, AllocError>
-    requires first { C.Flow.sound chargers.now.first × All Idle (C.Flow.views chargers.now.first) }
-    requires second { C.Flow.sound chargers.now.second × All Idle (C.Flow.views chargers.now.second) }
-    requires third { C.Flow.sound chargers.now.third × All Idle (C.Flow.views chargers.now.third) }
-    requires fourth { C.Flow.sound chargers.now.fourth × All Idle (C.Flow.views chargers.now.fourth) }
+    requires sound { Each C.Flow.sound chargers.now }
+    requires fresh { Each (λ c. All Idle (C.Flow.views c)) chargers.now }
     ensures { IfOk result (λ s. length s.sent.items ≤ 352) }
 {
     let at_bus = watch(heap, bus(traffic(chargers, &sheet.door, &tables.door)), log)?;
