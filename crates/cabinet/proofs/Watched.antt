@@ -1,7 +1,6 @@
 -- What a run keeps, as a watcher sees it.
-use Rattle.std.proofs.Common.{◌≡◌, ℕ, ◌≤◌, true, List, ◌∷◌, ◌++◌, length, take, is_err, IfOk, Ok, Err, Result, sym, ap, ◌∙◌, subst, arith, length-append}
+use Rattle.std.proofs.Common.{◌≡◌, ℕ, ◌≤◌, List, ◌∷◌, ◌++◌, length, take, sym, ap, ◌∙◌, subst, arith, length-append}
 use Rattle.std.proofs.lemmas.List.{length-take-le, take_at, take-take}
-use Rattle.std.proofs.lemmas.Bool.{false≢true}
 use Rattle.tables.proofs.Ranges.{largest_le}
 use Rattle.flows.specs.Views.{All}
 use Rattle.flows.specs.declared.flow.Flow as flow
@@ -22,8 +21,3 @@ first_in ins outs held taken given e li lo =
     let long : length (take given outs) ≡ given = length-take-le given outs lo in
     let few : given ≤ taken = omega (arith, ap length e, length-take-le taken ins li, length-append (take given outs) held, long) in
     sym (take_at (take given outs) held given long) ∙ ap (take given) (sym e) ∙ take-take given taken ins few
-
--- where there is no result, nothing is claimed of it
-pub none_made : {X Y : Type 0} (P : X → Type 0) (r : Result X Y) → is_err r ≡ true → IfOk r P
-none_made P (Ok v) is = absurd (false≢true is)
-none_made P (Err e) is = tt

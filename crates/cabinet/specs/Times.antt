@@ -1,27 +1,23 @@
 -- How long messages take.
-use Rattle.std.specs.Prelude.{ℕ, zero, suc, ◌+◌, ◌-◌, max, Bool, true, false, cond, ◌&&◌, List, [], ◌∷◌, ◌++◌, replicate, nat_lt, slice_index, slice_index_or}
+use Rattle.std.specs.Prelude.{ℕ, ◌+◌, ◌-◌, max, Bool, true, false, ◌&&◌, List, [], ◌∷◌, map, replicate, codes, decimal, nat_lt, slice_index}
+use Rattle.std.specs.List.{concat, enumerate_from, flat_map, fold, zip}
 use Rattle.cabinet.specs.declared.messages.Message.{Message}
 use Rattle.cabinet.specs.declared.messages.Sender.{Sender}
+use Rattle.cabinet.specs.declared.messages.Sent.{Sent}
 use Rattle.cabinet.specs.declared.sheets.Sheet.{Sheet}
 use Rattle.cabinet.specs.declared.messages.Sender.TheVariants.{Pack, Temperature, Door}
 
--- the tick of each message, where the first of the counts is that of tick t
-abbrev pub ticks_from : ℕ → List ℕ → List ℕ
-ticks_from t [] = []
-ticks_from t (c ∷ cs) = replicate c t ++ ticks_from (t + 1) cs
+-- the tick of each message: tick n + 1 as often as count number n says
+abbrev pub ticks_of : List ℕ → List ℕ
+ticks_of counts = flat_map (λ (p : ℕ × ℕ). replicate p.1 (p.0 + 1)) (enumerate_from 0 counts)
 
 -- what all senders together hand over in tick t + 1
 abbrev pub handed : Sheet → ℕ → ℕ
-handed s t = slice_index s.door t + slice_index s.temperature t + slice_index s.first t + slice_index s.second t + slice_index s.third t + slice_index s.fourth t
+handed s t = slice_index s.door t + slice_index s.temperature t + slice_index s.packs.first t + slice_index s.packs.second t + slice_index s.packs.third t + slice_index s.packs.fourth t
 
--- how long message number i took
-abbrev pub took : List ℕ → List ℕ → ℕ → ℕ
-took ins outs i = slice_index outs i - slice_index ins i
-
--- the largest of the first n, and 0 where there is none
-abbrev pub longest_of : ℕ → (ℕ → ℕ) → ℕ
-longest_of zero f = 0
-longest_of (suc n) f = max (longest_of n f) (f n)
+-- the longest time from a message's coming in to its going out, and 0 where there is none
+abbrev pub longest_stay : List ℕ → List ℕ → ℕ
+longest_stay ins outs = fold max 0 (map (λ (p : ℕ × ℕ). p.1 - p.0) (zip ins outs))
 
 -- whether a message counts a cycle of a pack
 abbrev pub cycle_counted : Sender → Bool
@@ -29,15 +25,15 @@ cycle_counted (Pack n) = true
 cycle_counted Temperature = false
 cycle_counted Door = false
 
--- how many of the first n are so
-abbrev pub how_many : ℕ → (ℕ → Bool) → ℕ
-how_many zero p = 0
-how_many (suc n) p = how_many n p + cond (p n) 1 0
+abbrev text_of : Sender → ℕ → List ℕ
+text_of (Pack p) n = concat (codes "pack " ∷ decimal p ∷ codes " cycle " ∷ decimal n ∷ [])
+text_of Temperature n = concat (codes "temperature " ∷ decimal n ∷ [])
+text_of Door n = concat (codes "door " ∷ decimal n ∷ [])
 
--- whether message number i counts a cycle
-abbrev pub increment : List Message → ℕ → Bool
-increment ms i = cycle_counted (slice_index_or ms i (record { sender = Pack 0; number = 0 })).sender
+-- as "pack 2 cycle 5" and as "door 1"
+abbrev pub message_text : Message → List ℕ
+message_text m = text_of m.sender m.number
 
--- and took longer than a timer waits
-abbrev pub late : List Message → List ℕ → List ℕ → ℕ → ℕ → Bool
-late ms ins outs timer i = increment ms i && nat_lt timer (took ins outs i)
+-- whether a message counts a cycle and took longer than a timer waits
+abbrev pub outlasts : ℕ → Sent → ℕ → Bool
+outlasts timer s until = cycle_counted s.message.sender && nat_lt timer (until - s.since)

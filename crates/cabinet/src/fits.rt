@@ -1,19 +1,70 @@
 // The bounds of the fitted cabinet.
-ghost use Rattle.std.specs.Prelude.{◌≡◌, ℕ, ◌+◌, codes};
-ghost use Rattle.cabinet.specs.Fits.{promised};
+ghost use Rattle.std.specs.Prelude.{◌≡◌, ℕ, ◌+◌, Some};
+ghost use Rattle.cabinet.specs.Fits.{limit, limit_at, promised, name};
 
+use flows::StageBounds;
 use runs::Fitted;
 use stages::Stage;
-use std::io;
+use std::{fmt, io};
 
-// The stages of the cabinet.
-const STAGES: usize = 8;
+// The stages of the cabinet, each at its place from the top.
+#[derive(Clone, Copy, PartialEq, Eq, Debug)]
+pub(crate) enum Place {
+    Shaper,
+    Controller,
+    Bus,
+    Traffic,
+    Chargers,
+    FirstTwo,
+    LastTwo,
+    Others,
+}
+
+// From the bottom.
+const PLACES: [Place; 8] = [
+    Place::Others,
+    Place::LastTwo,
+    Place::FirstTwo,
+    Place::Chargers,
+    Place::Traffic,
+    Place::Bus,
+    Place::Controller,
+    Place::Shaper,
+];
+
+impl fmt::Display for Place {
+    ghost output = { λ p. Some (name p) };
+
+    fn fmt<W: fmt::Write>(&self, f: &mut fmt::Formatter<W>) -> fmt::Result {
+        f.write_str(match self {
+            Place::Shaper => "shaper",
+            Place::Controller => "controller",
+            Place::Bus => "bus",
+            Place::Traffic => "all traffic",
+            Place::Chargers => "the four chargers",
+            Place::FirstTwo => "chargers 1 and 2",
+            Place::LastTwo => "chargers 3 and 4",
+            Place::Others => "temperature and door",
+        })
+    }
+}
 
 // How many messages wait at a stage at most, and how long.
 #[derive(Clone, Copy)]
 pub(crate) struct Limit {
     pub wait: u32,
     pub delay: u32,
+}
+
+impl From<StageBounds> for Limit {
+    ghost from_gives = { λ b l. l ≡ limit b };
+
+    fn from(bounds: StageBounds) -> Limit {
+        Limit {
+            wait: bounds.wait,
+            delay: bounds.delay,
+        }
+    }
 }
 
 // The bounds of the stages that a message comes through.
@@ -29,26 +80,18 @@ impl Promised {
     pub(crate) fn way(&self) -> u64
         ensures { result ≡ self.now.bus.delay + self.now.controller.delay + self.now.shaper.delay }
     {
-        self.bus.delay as u64 + self.controller.delay as u64 + self.shaper.delay as u64
+        let bus = u64::from(self.bus.delay);
+        let controller = u64::from(self.controller.delay);
+        let shaper = u64::from(self.shaper.delay);
+        bus + controller + shaper
     }
 }
 
-// What stands at a place of the cabinet, counted from the top.
-fn name(place: usize) -> &'static str
-    ensures shaper { place ≡ 0 → result.now ≡ codes "shaper" }
-    ensures controller { place ≡ 1 → result.now ≡ codes "controller" }
-    ensures bus { place ≡ 2 → result.now ≡ codes "bus" }
+// How many messages wait at a place at most, and how long. Below a closed stage there are no places.
+fn limit_at<P: Stage + Drop>(fitted: &Fitted<P>, place: Place) -> Option<Limit>
+    ensures { result ≡ limit_at (P.Flow.views fitted.now.network) place }
 {
-    match place {
-        0 => "shaper",
-        1 => "controller",
-        2 => "bus",
-        3 => "all traffic",
-        4 => "the four chargers",
-        5 => "chargers 1 and 2",
-        6 => "chargers 3 and 4",
-        _ => "temperature and door",
-    }
+    fitted.bounds(place as usize).ok().map(Limit::from)
 }
 
 // The bounds of shaper, controller and bus. A closed stage has none below it, so where one is closed the
@@ -56,48 +99,26 @@ fn name(place: usize) -> &'static str
 pub(crate) fn promises<P: Stage + Drop>(fitted: &Fitted<P>) -> Option<Promised>
     ensures { result ≡ promised (P.Flow.views fitted.now.network) }
 {
-    let Ok(_) = fitted.bounds(STAGES - 1) else {
-        return None;
-    };
-    let Ok(shaper) = fitted.bounds(0) else {
-        return None;
-    };
-    let Ok(controller) = fitted.bounds(1) else {
-        return None;
-    };
-    let Ok(bus) = fitted.bounds(2) else {
-        return None;
-    };
+    limit_at(fitted, Place::Others)?;
     Some(Promised {
-        bus: Limit {
-            wait: bus.wait,
-            delay: bus.delay,
-        },
-        controller: Limit {
-            wait: controller.wait,
-            delay: controller.delay,
-        },
-        shaper: Limit {
-            wait: shaper.wait,
-            delay: shaper.delay,
-        },
+        bus: limit_at(fitted, Place::Bus)?,
+        controller: limit_at(fitted, Place::Controller)?,
+        shaper: limit_at(fitted, Place::Shaper)?,
     })
 }
 
 // Prints the bounds of each stage, from the bottom.
 pub(crate) fn show<P: Stage + Drop>(rt: &HostRuntime, fitted: &Fitted<P>) -> io::Result<()> {
-    for below in 0..STAGES {
-        let place = STAGES - 1 - below;
-        if let Ok(bounds) = fitted.bounds(place) {
-            let name = name(place);
-            let kind = bounds.kind;
-            let wait = bounds.wait;
-            let delay = bounds.delay;
-            let most = bounds.pair.most.at(1);
-            let more = bounds.pair.most.at(32);
-            let least = bounds.pair.least.at(32);
+    for place in PLACES {
+        if let Ok(bounds) = fitted.bounds(place as usize) {
             println!(rt;
-                "  {name} ({kind}): wait {wait}, delay {delay}; passes at most {most} in a tick, {least} to {more} in 32"
+                "  {place} ({}): wait {}, delay {}; passes at most {} in a tick, {} to {} in 32",
+                bounds.kind,
+                bounds.wait,
+                bounds.delay,
+                bounds.pair.most.at(1),
+                bounds.pair.least.at(32),
+                bounds.pair.most.at(32),
             )?;
         }
     }

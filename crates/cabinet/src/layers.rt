@@ -1,23 +1,44 @@
 // The stages of the cabinet, from the chargers up to the shaper.
 ghost use Rattle.std.specs.Prelude.{◌≡◌, IfSome};
 ghost use Rattle.flows.specs.Views.{All, Idle};
-ghost use Rattle.flows.specs.contracts.clocked.ClockedFlow.TheImpl.{ghosts as clocked};
-ghost use Rattle.flows.specs.contracts.recorded.RecordedFlow.TheImpl.{ghosts as recorded};
-ghost use Rattle.flows.specs.contracts.slotted.SlottedFlow.TheImpl.{ghosts as slotted};
-ghost use Rattle.flows.specs.contracts.steady.SteadyFlow.TheImpl.{ghosts as steady};
-ghost use Rattle.stages.specs.Joins.{join_views, JoinSound};
-ghost use Rattle.stages.specs.Servers.{server_views, ServerSound};
+ghost use Rattle.cabinet.specs.Fours.{Each};
 
 use flows::{Clocked, Flow, Recorded, Slotted, Steady};
 use stages::{Join, Server};
 use tables::{Table, clocked_pair};
 
+// The traffic of the cabinet.
+pub(crate) type Traffic<'a, C> = Join<Join<Join<C, C>, Join<C, C>>, Join<Clocked, Recorded<'a>>>;
+
 // Every table, and every round of the bus, is this long.
 pub(crate) const FRAME: usize = 32;
 
+// One of a kind for each of the four chargers.
+#[derive(Clone, Copy)]
+pub(crate) struct Four<T> {
+    pub first: T,
+    pub second: T,
+    pub third: T,
+    pub fourth: T,
+}
+
+impl<T: Copy> Four<T> {
+    // The same for each.
+    pub(crate) fn alike(each: T) -> Four<T>
+        ensures { result ≡ record { first = each; second = each; third = each; fourth = each } }
+    {
+        Four {
+            first: each,
+            second: each,
+            third: each,
+            fourth: each,
+        }
+    }
+}
+
 // A charger: one cycle in each round, up to two ticks early, and the first at power-on.
 pub(crate) fn charger() -> Clocked
-    ensures { clocked.sound result }
+    ensures { ⟦<Clocked as Flow>⟧.sound result }
 {
     Clocked::build(FRAME, 32, 2)
 }
@@ -26,33 +47,46 @@ pub(crate) fn charger() -> Clocked
 pub(crate) fn charger_most() -> Option<Table>
     ensures { IfSome result (λ t. t.frame ≡ 32) }
 {
-    match clocked_pair(FRAME, 32, 2) {
-        Ok(pair) => Some(pair.most),
-        Err(_) => None,
-    }
+    Some(clocked_pair(FRAME, 32, 2).ok()?.most)
 }
 
 // The temperature, once in eight ticks, up to three ticks early.
 pub(crate) fn temperature() -> Clocked
-    ensures { clocked.sound result }
+    ensures { ⟦<Clocked as Flow>⟧.sound result }
 {
     Clocked::build(FRAME, 8, 3)
 }
 
 // The temperature, and the door as it was recorded.
 pub(crate) fn others<'a>(door: &'a [u32], most: &Table) -> Join<Clocked, Recorded<'a>>
-    ensures sound { JoinSound clocked recorded result }
-    ensures fresh { All Idle (join_views clocked recorded result) }
+    ensures sound { ⟦<Join<Clocked, Recorded<'a>> as Flow>⟧.sound result }
+    ensures fresh { All Idle (⟦<Join<Clocked, Recorded<'a>> as Flow>⟧.views result) }
 {
     Join::build(temperature(), Recorded::build(door, most))
+}
+
+// All that the bus carries: the four chargers, and behind them the others.
+pub(crate) fn traffic<'a, C: Flow + Copy + Drop>(
+    chargers: &Four<C>,
+    door: &'a [u32],
+    most: &Table,
+) -> Traffic<'a, C>
+    requires sound { Each C.Flow.sound chargers.now }
+    requires fresh { Each (λ c. All Idle (C.Flow.views c)) chargers.now }
+    ensures sound { ⟦<Traffic<'a, C> as Flow>⟧.sound result }
+    ensures fresh { All Idle (⟦<Traffic<'a, C> as Flow>⟧.views result) }
+{
+    let low = Join::build(chargers.first, chargers.second);
+    let high = Join::build(chargers.third, chargers.fourth);
+    Join::build(Join::build(low, high), others(door, most))
 }
 
 // The bus: two messages in every fourth tick.
 pub(crate) fn bus<E: Flow + Drop>(traffic: E) -> Server<E, Slotted>
     requires sound { E.Flow.sound traffic }
     requires fresh { All Idle (E.Flow.views traffic) }
-    ensures sound { ServerSound E.Flow slotted result }
-    ensures fresh { All Idle (server_views E.Flow slotted result) }
+    ensures sound { ⟦<Server<E, Slotted> as Flow>⟧.sound result }
+    ensures fresh { All Idle (⟦<Server<E, Slotted> as Flow>⟧.views result) }
 {
     let slots = [
         0, 0, 0, 2, 0, 0, 0, 2, 0, 0, 0, 2, 0, 0, 0, 2, 0, 0, 0, 2, 0, 0, 0, 2, 0, 0, 0, 2, 0, 0,
@@ -65,8 +99,8 @@ pub(crate) fn bus<E: Flow + Drop>(traffic: E) -> Server<E, Slotted>
 pub(crate) fn controller<E: Flow + Drop>(bus: E) -> Server<E, Steady>
     requires sound { E.Flow.sound bus }
     requires fresh { All Idle (E.Flow.views bus) }
-    ensures sound { ServerSound E.Flow steady result }
-    ensures fresh { All Idle (server_views E.Flow steady result) }
+    ensures sound { ⟦<Server<E, Steady> as Flow>⟧.sound result }
+    ensures fresh { All Idle (⟦<Server<E, Steady> as Flow>⟧.views result) }
 {
     Server::build(bus, Steady::build(FRAME, 1))
 }

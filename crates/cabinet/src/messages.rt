@@ -1,10 +1,11 @@
 // The messages on the bus.
-ghost use Rattle.std.specs.Prelude.{◌≡◌, ℕ, ◌+◌, length, IfOk, OnOk};
+ghost use Rattle.std.specs.Prelude.{◌≡◌, ℕ, ◌+◌, ◌<◌, Some, length, slice_index, IfOk, OnOk};
 ghost use Rattle.tables.specs.Courses.{sum};
-ghost use Rattle.cabinet.specs.Times.{handed, cycle_counted};
+ghost use Rattle.cabinet.specs.Times.{handed, cycle_counted, outlasts, message_text};
 
-use crate::sheets::{LONG, Sheet};
+use crate::sheets::{LONG, Row, Sheet};
 use std::alloc::{AllocError, Global};
+use std::fmt;
 
 // Who sends a message.
 #[derive(Clone, Copy, PartialEq, Eq, Debug)]
@@ -21,64 +22,109 @@ pub(crate) struct Message {
     pub number: u32,
 }
 
-// What stands in a place that no message was put in.
-pub(crate) const NO_MESSAGE: Message = Message {
-    sender: Sender::Door,
-    number: 0,
-};
-
 impl Message {
     // Whether it counts a cycle of a pack.
     pub(crate) fn counts_cycle(&self) -> bool
         ensures { result ≡ cycle_counted self.now.sender }
     {
+        matches!(self.sender, Sender::Pack(_))
+    }
+}
+
+impl fmt::Display for Message {
+    ghost output = { λ m. Some (message_text m) };
+
+    fn fmt<W: fmt::Write>(&self, f: &mut fmt::Formatter<W>) -> fmt::Result {
+        let number = self.number;
         match self.sender {
-            Sender::Pack(_) => true,
-            Sender::Temperature | Sender::Door => false,
+            Sender::Pack(pack) => write!(f, "pack {pack} cycle {number}"),
+            Sender::Temperature => write!(f, "temperature {number}"),
+            Sender::Door => write!(f, "door {number}"),
         }
     }
 }
 
-// Some messages of one sender behind the others, numbered from the one after the last.
-fn send(
-    messages: &mut Vec<Message>,
-    sender: Sender,
-    last: u32,
-    count: u32,
-) -> Result<u32, AllocError>
-    ensures { OnOk result (length messages.new.items ≡ length messages.old.items + count) }
-{
-    let mut number = last;
-    for _ in 0..count {
-        number = number.wrapping_add(1);
-        messages.push(Message { sender, number })?;
+// A message, and the tick in which it reached the bus.
+#[derive(Clone, Copy, PartialEq, Eq, Debug)]
+pub(crate) struct Sent {
+    pub message: Message,
+    pub since: usize,
+}
+
+// What stands in a place that no message was put in.
+pub(crate) const NOTHING_SENT: Sent = Sent {
+    message: Message {
+        sender: Sender::Door,
+        number: 0,
+    },
+    since: 0,
+};
+
+impl Sent {
+    // Whether it counts a cycle and took longer than a timer waits.
+    pub(crate) fn is_late(&self, until: usize, timer: usize) -> bool
+        ensures { result ≡ outlasts timer self.now until }
+    {
+        self.message.counts_cycle() && timer < until.saturating_sub(self.since)
     }
-    Ok(number)
+}
+
+// A sender with what it hands over tick by tick, and the number of its last message.
+#[derive(Clone, Copy)]
+struct Source<'a> {
+    sender: Sender,
+    row: &'a Row,
+    last: u32,
+}
+
+impl<'a> Source<'a> {
+    // A sender that has sent nothing yet.
+    fn new(sender: Sender, row: &'a Row) -> Source<'a>
+        ensures sender { result.sender ≡ sender }
+        ensures row { result.row ≡ row.entry }
+        ensures last { result.last ≡ 0 }
+    {
+        Source {
+            sender,
+            row,
+            last: 0,
+        }
+    }
+
+    // Puts its messages of a tick behind the others, numbered from the one after the last.
+    fn send(&mut self, messages: &mut Vec<Message>, tick: usize) -> Result<(), AllocError>
+        requires { tick < 352 }
+        ensures sent { OnOk result (length messages.new.items ≡ length messages.old.items + slice_index self.old.row.now tick) }
+        ensures row { self.new.row ≡ self.old.row }
+    {
+        for _ in 0..self.row[tick] {
+            self.last = self.last.wrapping_add(1);
+            messages.push(Message {
+                sender: self.sender,
+                number: self.last,
+            })?;
+        }
+        Ok(())
+    }
 }
 
 // All messages in the order in which they reach the bus: tick after tick, and in a tick the packs last.
 pub(crate) fn line_up(heap: Global, sheet: &Sheet) -> Result<Vec<Message>, AllocError>
     ensures { IfOk result (λ v. (n : ℕ) → n ≡ 352 → length v.items ≡ sum (handed sheet.now) n) }
 {
+    let mut sources = [
+        Source::new(Sender::Door, &sheet.door),
+        Source::new(Sender::Temperature, &sheet.temperature),
+        Source::new(Sender::Pack(1), &sheet.packs.first),
+        Source::new(Sender::Pack(2), &sheet.packs.second),
+        Source::new(Sender::Pack(3), &sheet.packs.third),
+        Source::new(Sender::Pack(4), &sheet.packs.fourth),
+    ];
     let mut messages = Vec::new(heap);
-    let mut door = 0;
-    let mut temperature = 0;
-    let mut first = 0;
-    let mut second = 0;
-    let mut third = 0;
-    let mut fourth = 0;
     for tick in 0..LONG {
-        door = send(&mut messages, Sender::Door, door, sheet.door[tick])?;
-        temperature = send(
-            &mut messages,
-            Sender::Temperature,
-            temperature,
-            sheet.temperature[tick],
-        )?;
-        first = send(&mut messages, Sender::Pack(1), first, sheet.first[tick])?;
-        second = send(&mut messages, Sender::Pack(2), second, sheet.second[tick])?;
-        third = send(&mut messages, Sender::Pack(3), third, sheet.third[tick])?;
-        fourth = send(&mut messages, Sender::Pack(4), fourth, sheet.fourth[tick])?;
+        for source in sources.iter_mut() {
+            source.send(&mut messages, tick)?;
+        }
     }
     Ok(messages)
 }

@@ -1,15 +1,16 @@
 // The cabinet in one mode of its chargers.
 ghost use Rattle.std.specs.Prelude.{◌≡◌, ◌≤◌, length, take, IfSome, IfOk};
 ghost use Rattle.flows.specs.Views.{All, Idle};
+ghost use Rattle.cabinet.specs.Fours.{Each};
 
 use crate::delays::{longest, ticks_of};
-use crate::layers::{FRAME, bus, controller, others};
-use crate::messages::{Message, NO_MESSAGE, line_up};
-use crate::sheets::Sheet;
+use crate::layers::{FRAME, Four, bus, controller, traffic};
+use crate::messages::{NOTHING_SENT, Sent, line_up};
+use crate::sheets::{LONG, Sheet};
 use crate::watches::{Seen, TICKS, carry_all, watch};
 use flows::Flow;
 use runs::Log;
-use stages::{Join, Shaper};
+use stages::Shaper;
 use std::alloc::{AllocError, Global};
 use tables::Table;
 
@@ -24,28 +25,25 @@ pub(crate) struct Tables {
 pub(crate) fn door_and_shaping() -> Option<Tables>
     ensures { IfSome result (λ t. (t.door.frame ≡ 32) × (t.shaping.frame ≡ 32)) }
 {
-    let Ok(door) = Table::new(&[1; FRAME]) else {
-        return None;
-    };
     let shaping = [
         1, 1, 2, 2, 3, 3, 4, 4, 5, 5, 6, 6, 7, 7, 8, 8, 9, 9, 10, 10, 11, 11, 12, 12, 13, 13, 14,
         14, 15, 15, 16, 16,
     ];
-    let Ok(shaping) = Table::new(&shaping) else {
-        return None;
-    };
-    Some(Tables { door, shaping })
+    Some(Tables {
+        door: Table::new(&[1; FRAME]).ok()?,
+        shaping: Table::new(&shaping).ok()?,
+    })
 }
 
-// What was seen: at the bus, at the controller, at the shaper, and on the whole way; how many messages came
-// out, and how many calls were refused.
-#[derive(Clone, Copy)]
+// What was seen: at the bus, at the controller, at the shaper, and on the whole way; the messages that came
+// out, in order, and how many calls were refused.
+#[derive(Drop)]
 pub(crate) struct Scene {
     pub bus: Seen,
     pub controller: Seen,
     pub shaper: Seen,
     pub way: usize,
-    pub out: usize,
+    pub sent: Vec<Sent>,
     pub refused: usize,
 }
 
@@ -53,54 +51,45 @@ pub(crate) struct Scene {
 pub(crate) fn first_of(list: &[u32], count: usize) -> &[u32]
     ensures { result.now ≡ take count list.now }
 {
-    &list[0..count.min(list.len())]
+    list.get(..count).unwrap_or(list)
 }
 
-// Runs the cabinet with cycle messages, which come out in `out`, and again with the ticks of their arrival
-// at the bus, which come out in `since`.
+// Runs the cabinet with messages, each with the tick of its arrival at the bus.
 pub(crate) fn play<C: Flow + Copy + Drop>(
     heap: Global,
-    first: C,
-    second: C,
-    third: C,
-    fourth: C,
+    chargers: &Four<C>,
     sheet: &Sheet,
     tables: &Tables,
     log: &mut Log,
-    out: &mut [Message],
-    since: &mut [usize],
 ) -> Result<Scene, AllocError>
-    requires first { C.Flow.sound first × All Idle (C.Flow.views first) }
-    requires second { C.Flow.sound second × All Idle (C.Flow.views second) }
-    requires third { C.Flow.sound third × All Idle (C.Flow.views third) }
-    requires fourth { C.Flow.sound fourth × All Idle (C.Flow.views fourth) }
-    ensures { IfOk result (λ s. (s.out ≤ length out.new) × (s.out ≤ length since.new)) }
+    requires sound { Each C.Flow.sound chargers.now }
+    requires fresh { Each (λ c. All Idle (C.Flow.views c)) chargers.now }
+    ensures { IfOk result (λ s. length s.sent.items ≤ 352) }
 {
-    let chargers = Join::build(Join::build(first, second), Join::build(third, fourth));
-    let traffic = Join::build(chargers, others(&sheet.door, &tables.door));
-    let at_bus = watch(heap, bus(traffic), log)?;
+    let at_bus = watch(heap, bus(traffic(chargers, &sheet.door, &tables.door)), log)?;
     let came = ticks_of(heap, log.arrived)?;
 
-    let chargers = Join::build(Join::build(first, second), Join::build(third, fourth));
-    let traffic = Join::build(chargers, others(&sheet.door, &tables.door));
-    let at_controller = watch(heap, controller(bus(traffic)), log)?;
+    let below = bus(traffic(chargers, &sheet.door, &tables.door));
+    let at_controller = watch(heap, controller(below), log)?;
 
-    let chargers = Join::build(Join::build(first, second), Join::build(third, fourth));
-    let traffic = Join::build(chargers, others(&sheet.door, &tables.door));
-    let cabinet = Shaper::build(controller(bus(traffic)), tables.shaping);
-    let messages = line_up(heap, sheet)?;
-    let mut slots = [NO_MESSAGE; 16];
-    let carried = carry_all(cabinet, log, &mut slots, &messages, out);
-
-    let chargers = Join::build(Join::build(first, second), Join::build(third, fourth));
-    let traffic = Join::build(chargers, others(&sheet.door, &tables.door));
-    let cabinet = Shaper::build(controller(bus(traffic)), tables.shaping);
-    let mut slots = [0; 16];
-    let again = carry_all(cabinet, log, &mut slots, &came, since);
+    let messages: Vec<Sent> = line_up(heap, sheet)?
+        .iter()
+        .zip(&came)
+        .map(|(message, since)| Sent {
+            message: *message,
+            since: *since,
+        })
+        .collect(heap)?;
+    let below = bus(traffic(chargers, &sheet.door, &tables.door));
+    let cabinet = Shaper::build(controller(below), tables.shaping);
+    let mut slots = [NOTHING_SENT; 16];
+    let mut out = [NOTHING_SENT; LONG];
+    let carried = carry_all(cabinet, log, &mut slots, &messages, &mut out);
+    let sent = out[..carried.out].to_vec(heap)?;
 
     let ins = ticks_of(heap, first_of(log.arrived, TICKS))?;
     let outs = ticks_of(heap, first_of(log.passed, TICKS))?;
-    let count = carried.out.min(again.out);
+    let since: Vec<usize> = sent.iter().map(|sent| sent.since).collect(heap)?;
     Ok(Scene {
         bus: at_bus,
         controller: at_controller,
@@ -108,8 +97,8 @@ pub(crate) fn play<C: Flow + Copy + Drop>(
             wait: carried.wait,
             delay: longest(&ins, &outs),
         },
-        way: longest(&since[0..count], &outs),
-        out: count,
+        way: longest(&since, &outs),
+        sent,
         refused: carried.refused,
     })
 }

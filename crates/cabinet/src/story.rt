@@ -1,20 +1,13 @@
 // What the program says.
-ghost use Rattle.std.specs.Prelude.{◌≡◌, ◌+◌, IfOk, slice_index};
+ghost use Rattle.std.specs.Prelude.{◌≡◌, ◌+◌, IfOk};
 
 use crate::delays::{counted_twice, increments, ticks_of};
-use crate::fits::{Limit, Promised};
-use crate::messages::{Message, Sender};
+use crate::fits::{Limit, Place, Promised};
+use crate::messages::Sent;
 use crate::scenes::{Scene, first_of};
 use crate::watches::{Seen, TICKS};
 use runs::Log;
 use std::io;
-
-// What stands at a place of a list, and 0 past its end.
-fn at(list: &[u32], place: usize) -> u32
-    ensures { result ≡ slice_index list.now place }
-{
-    if place < list.len() { list[place] } else { 0 }
-}
 
 pub(crate) fn begin(rt: &HostRuntime) -> io::Result<()> {
     println!(rt;
@@ -32,48 +25,49 @@ pub(crate) fn begin(rt: &HostRuntime) -> io::Result<()> {
 pub(crate) fn set_timer(rt: &HostRuntime, promised: &Promised) -> io::Result<u64>
     ensures { IfOk result (λ t. t ≡ promised.now.bus.delay + promised.now.controller.delay + promised.now.shaper.delay) }
 {
-    let bus = promised.bus.delay;
-    let controller = promised.controller.delay;
-    let shaper = promised.shaper.delay;
     let way = promised.way();
     println!(rt; "")?;
     println!(rt;
         "A cycle increment passes the bus, the controller and the shaper, and at each it stays no longer than"
     )?;
     println!(rt;
-        "the delay there: {bus} + {controller} + {shaper} = {way} ticks. The charger's timer is set to {way}."
+        "the delay there: {} + {} + {} = {way} ticks. The charger's timer is set to {way}.",
+        promised.bus.delay, promised.controller.delay, promised.shaper.delay,
     )?;
     Ok(way)
 }
 
-fn stage(rt: &HostRuntime, name: &str, seen: Seen, limit: Limit) -> io::Result<()> {
-    let wait = seen.wait;
-    let delay = seen.delay;
-    let most = limit.wait;
-    let longest = limit.delay;
+fn stage(rt: &HostRuntime, place: Place, seen: Seen, limit: Limit) -> io::Result<()> {
     println!(rt;
-        "  {name}: {wait} waited at most, of {most} proved; the longest delay was {delay}, of {longest} proved"
+        "  {place}: {} waited at most, of {} proved; the longest delay was {}, of {} proved",
+        seen.wait, limit.wait, seen.delay, limit.delay,
     )
 }
 
 fn stages(rt: &HostRuntime, scene: &Scene, promised: &Promised) -> io::Result<()> {
-    stage(rt, "bus", scene.bus, promised.bus)?;
-    stage(rt, "controller", scene.controller, promised.controller)?;
-    stage(rt, "shaper", scene.shaper, promised.shaper)?;
-    let way = scene.way;
-    let longest = promised.way();
-    let out = scene.out;
-    let refused = scene.refused;
-    println!(rt; "  the whole way: {way} ticks at most, of {longest} proved")?;
-    println!(rt; "  {out} messages came out, in order, and {refused} calls were refused")
+    stage(rt, Place::Bus, scene.bus, promised.bus)?;
+    stage(rt, Place::Controller, scene.controller, promised.controller)?;
+    stage(rt, Place::Shaper, scene.shaper, promised.shaper)?;
+    println!(rt;
+        "  the whole way: {} ticks at most, of {} proved",
+        scene.way,
+        promised.way()
+    )?;
+    println!(rt;
+        "  {} messages came out, in order, and {} calls were refused",
+        scene.sent.len(),
+        scene.refused,
+    )
 }
 
 pub(crate) fn bench(rt: &HostRuntime, scene: &Scene, promised: &Promised) -> io::Result<()> {
     println!(rt; "")?;
     println!(rt; "On the bench the chargers start eight ticks apart. In {TICKS} ticks:")?;
     stages(rt, scene, promised)?;
-    let way = scene.way;
-    println!(rt; "From this alone, a timer of {way} ticks would have looked long enough.")
+    println!(rt;
+        "From this alone, a timer of {} ticks would have looked long enough.",
+        scene.way
+    )
 }
 
 pub(crate) fn mains(rt: &HostRuntime, scene: &Scene, promised: &Promised) -> io::Result<()> {
@@ -83,66 +77,43 @@ pub(crate) fn mains(rt: &HostRuntime, scene: &Scene, promised: &Promised) -> io:
 }
 
 // The log of the first ticks.
-pub(crate) fn show_log(rt: &HostRuntime, log: &mut Log) -> io::Result<()> {
+pub(crate) fn show_log(rt: &HostRuntime, log: &Log) -> io::Result<()> {
     println!(rt; "")?;
     println!(rt; "The log of the shaper, ticks 1 to 16:")?;
-    for place in 0..16 {
-        let tick = place + 1;
-        let arrived = at(log.arrived, place);
-        let passed = at(log.passed, place);
-        let waiting = at(log.waiting, place);
+    let passed = log.passed.iter().zip(log.waiting.iter());
+    for (tick, (arrived, (passed, waiting))) in (1..=16).zip(log.arrived.iter().zip(passed)) {
         println!(rt; "  tick {tick}: {arrived} arrived, {passed} passed, {waiting} waiting")?;
     }
     Ok(())
 }
 
 // The first messages that came out.
-pub(crate) fn show_messages(
-    rt: &HostRuntime,
-    passed: &[u32],
-    out: &[Message],
-    since: &[usize],
-) -> anyhow::Result<()> {
+pub(crate) fn show_messages(rt: &HostRuntime, passed: &[u32], sent: &[Sent]) -> anyhow::Result<()> {
     println!(rt; "")?;
     println!(rt; "The first messages that came out:")?;
     let went = ticks_of(rt.alloc(), first_of(passed, TICKS))?;
-    for i in 0..12usize.min(out.len().min(since.len().min(went.len()))) {
-        let number = out[i].number;
-        let came = since[i];
-        let tick = went[i];
-        let took = tick.saturating_sub(came);
-        let sender = out[i].sender;
-        match sender {
-            Sender::Pack(pack) => println!(rt;
-                "  tick {tick}: pack {pack} cycle {number}, sent in tick {came}, {took} ticks on the way"
-            )?,
-            Sender::Temperature => println!(rt;
-                "  tick {tick}: temperature {number}, sent in tick {came}, {took} ticks on the way"
-            )?,
-            Sender::Door => println!(rt;
-                "  tick {tick}: door {number}, sent in tick {came}, {took} ticks on the way"
-            )?,
-        }
+    for (sent, tick) in sent.iter().zip(&went).take(12) {
+        println!(rt;
+            "  tick {tick}: {}, sent in tick {}, {} ticks on the way",
+            sent.message,
+            sent.since,
+            tick.saturating_sub(sent.since),
+        )?;
     }
     Ok(())
 }
 
 pub(crate) fn compare(
     rt: &HostRuntime,
-    scene: &Scene,
     passed: &[u32],
-    out: &[Message],
-    since: &[usize],
+    sent: &[Sent],
     seen: usize,
     proved: u64,
 ) -> anyhow::Result<()> {
     let went = ticks_of(rt.alloc(), first_of(passed, TICKS))?;
-    let count = scene.out.min(out.len().min(since.len()));
-    let out = &out[0..count];
-    let since = &since[0..count];
-    let all = increments(out);
-    let by_bench = counted_twice(out, since, &went, seen);
-    let by_proof = counted_twice(out, since, &went, proved as usize);
+    let all = increments(sent);
+    let by_bench = counted_twice(sent, &went, seen);
+    let by_proof = counted_twice(sent, &went, proved as usize);
     println!(rt; "")?;
     println!(rt; "Of {all} cycle increments after the mains failure")?;
     println!(rt;

@@ -18,13 +18,38 @@ pub(crate) struct Seen {
     pub delay: usize,
 }
 
-// What came of a run with messages: the most that waited at the top stage, the messages that came out, and
-// the calls that were refused.
+// What came of a run: the most that waited at the top stage, the messages that came out, and the calls that
+// were refused.
 #[derive(Clone, Copy)]
 pub(crate) struct Carried {
     pub wait: u32,
     pub out: usize,
     pub refused: usize,
+}
+
+// A run of a list of calls from power-on: what comes out is the first of what goes in, in order.
+fn run<P: Stage + Drop, M: Copy>(
+    network: P,
+    log: &mut Log,
+    slots: &mut [M],
+    calls: &[Call],
+    input: &[M],
+    out: &mut [M],
+) -> Carried
+    requires sound { P.Flow.sound network }
+    requires fresh { All Idle (P.Flow.views network) }
+    ensures wait { result.wait ≤ (P.Stage.top network).bounds.wait }
+    ensures order { take result.out out.new ≡ take result.out input.now }
+    ensures few { result.out ≤ length out.new }
+{
+    let mut ring = Ring::new(slots);
+    let worked = Fitted::new(network).work(log, &mut ring, calls, input, out);
+    let sums = worked.running.report().sums();
+    Carried {
+        wait: sums.greatest,
+        out: worked.done.given,
+        refused: worked.done.refused,
+    }
 }
 
 // A run without messages, and what was seen at the top stage.
@@ -37,15 +62,11 @@ pub(crate) fn watch<P: Stage + Drop>(
     requires fresh { All Idle (P.Flow.views network) }
     ensures { IfOk result (λ s. s.wait ≤ (P.Stage.top network).bounds.wait) }
 {
-    let mut slots = [0u32; 0];
-    let mut ring = Ring::new(&mut slots);
-    let mut out = [0u32; 0];
-    let worked = Fitted::new(network).work(log, &mut ring, &[Call::Tick; LONG], &[], &mut out);
-    let sums = worked.running.report().sums();
+    let ran = run::<P, u32>(network, log, &mut [], &[Call::Tick; LONG], &[], &mut []);
     let ins = ticks_of(heap, log.arrived)?;
     let outs = ticks_of(heap, log.passed)?;
     Ok(Seen {
-        wait: sums.greatest,
+        wait: ran.wait,
         delay: longest(&ins, &outs),
     })
 }
@@ -64,16 +85,9 @@ pub(crate) fn carry_all<P: Stage + Drop, M: Copy>(
     ensures order { take result.out out.new ≡ take result.out input.now }
     ensures few { result.out ≤ length out.new }
 {
-    let mut ring = Ring::new(slots);
     let call = Call::Carry {
         offered: input.len(),
         space: out.len(),
     };
-    let worked = Fitted::new(network).work(log, &mut ring, &[call; TICKS], input, out);
-    let sums = worked.running.report().sums();
-    Carried {
-        wait: sums.greatest,
-        out: worked.done.given,
-        refused: worked.done.refused,
-    }
+    run(network, log, slots, &[call; TICKS], input, out)
 }

@@ -1,9 +1,9 @@
 use Rattle.std.proofs.Common.{◌≡◌, ℕ, ◌+◌, ◌<◌, length, get_or}
 use Rattle.cabinet.proofs.sheets.draws.Given as goal
 
-abbrev pub invariant-loop-tick : goal.invariant-loop-tick
-invariant-loop-tick g l =
-    ((k : ℕ) → k < l.tick → get_or l.row k 0 ≡ g.F.Flow.course l.initial.flow k)
-    × (length l.row ≡ 352)
+abbrev pub invariant-loop-count : goal.invariant-loop-count
+invariant-loop-count g l =
+    ((k : ℕ) → k < l.count-index → get_or l.count-items k 0 ≡ g.F.Flow.course l.initial.flow k)
+    × (length l.count-items ≡ 352)
     × g.F.Flow.sound l.flow
-    × ((k : ℕ) → g.F.Flow.course l.flow k ≡ g.F.Flow.course l.initial.flow (l.tick + k))
+    × ((k : ℕ) → g.F.Flow.course l.flow k ≡ g.F.Flow.course l.initial.flow (l.count-index + k))

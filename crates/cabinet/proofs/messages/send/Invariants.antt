@@ -1,5 +1,0 @@
-use Rattle.std.proofs.Common.{◌≡◌, ◌+◌, length, vec_items}
-use Rattle.cabinet.proofs.messages.send.Given as goal
-
-abbrev pub invariant-loop : goal.invariant-loop
-invariant-loop l = length (vec_items l.messages) ≡ length (vec_items l.initial.messages) + l.counter
