@@ -1,14 +1,17 @@
 // The stages of the cabinet, from the chargers up to the shaper.
-ghost use Rattle.std.specs.Prelude.{◌≡◌, IfSome};
+ghost use Rattle.std.specs.Prelude.{◌≡◌, [], IfSome};
 ghost use Rattle.flows.specs.Views.{All, Idle};
 ghost use Rattle.cabinet.specs.Fours.{Each};
 
-use flows::{Clocked, Flow, Recorded, Slotted, Steady};
+use flows::{Bottom, Clocked, Flow, Recorded, Slotted, Steady};
 use stages::{Join, Server};
 use tables::{Table, clocked_pair};
 
 // The traffic of the cabinet.
-pub(crate) type Traffic<'a, C> = Join<Join<Join<C, C>, Join<C, C>>, Join<Clocked, Recorded<'a>>>;
+pub(crate) type Traffic<'a, C> = Join<
+    Join<Join<C, C>, Join<C, C>>,
+    Join<Bottom<Clocked>, Bottom<Recorded<'a>>>,
+>;
 
 // Every table, and every round of the bus, is this long.
 pub(crate) const FRAME: usize = 32;
@@ -37,8 +40,8 @@ impl<T: Copy> Four<T> {
 }
 
 // A charger: one cycle in each round, up to two ticks early, and the first at power-on.
-pub(crate) fn charger() -> Clocked
-    ensures { ⟦<Clocked as Flow>⟧.sound result }
+pub(crate) fn charger() -> Bottom<Clocked>
+    ensures { ⟦<Bottom<Clocked> as Flow>⟧.views result ≡ [] }
 {
     Clocked::build(FRAME, 32, 2)
 }
@@ -51,16 +54,18 @@ pub(crate) fn charger_most() -> Option<Table>
 }
 
 // The temperature, once in eight ticks, up to three ticks early.
-pub(crate) fn temperature() -> Clocked
-    ensures { ⟦<Clocked as Flow>⟧.sound result }
+pub(crate) fn temperature() -> Bottom<Clocked>
+    ensures { ⟦<Bottom<Clocked> as Flow>⟧.views result ≡ [] }
 {
     Clocked::build(FRAME, 8, 3)
 }
 
 // The temperature, and the door as it was recorded.
-pub(crate) fn others<'a>(door: &'a [u32], most: &Table) -> Join<Clocked, Recorded<'a>>
-    ensures sound { ⟦<Join<Clocked, Recorded<'a>> as Flow>⟧.sound result }
-    ensures fresh { All Idle (⟦<Join<Clocked, Recorded<'a>> as Flow>⟧.views result) }
+pub(crate) fn others<'a>(
+    door: &'a [u32],
+    most: &Table,
+) -> Join<Bottom<Clocked>, Bottom<Recorded<'a>>>
+    ensures { All Idle (⟦<Join<Bottom<Clocked>, Bottom<Recorded<'a>>> as Flow>⟧.views result) }
 {
     Join::build(temperature(), Recorded::build(door, most))
 }
@@ -71,10 +76,8 @@ pub(crate) fn traffic<'a, C: Flow + Copy + Drop>(
     door: &'a [u32],
     most: &Table,
 ) -> Traffic<'a, C>
-    requires sound { Each C.Flow.sound chargers.now }
-    requires fresh { Each (λ c. All Idle (C.Flow.views c)) chargers.now }
-    ensures sound { ⟦<Traffic<'a, C> as Flow>⟧.sound result }
-    ensures fresh { All Idle (⟦<Traffic<'a, C> as Flow>⟧.views result) }
+    requires { Each (λ c. All Idle (C.Flow.views c)) chargers.now }
+    ensures { All Idle (⟦<Traffic<'a, C> as Flow>⟧.views result) }
 {
     let low = Join::build(chargers.first, chargers.second);
     let high = Join::build(chargers.third, chargers.fourth);
@@ -82,11 +85,9 @@ pub(crate) fn traffic<'a, C: Flow + Copy + Drop>(
 }
 
 // The bus: two messages in every fourth tick.
-pub(crate) fn bus<E: Flow + Drop>(traffic: E) -> Server<E, Slotted>
-    requires sound { E.Flow.sound traffic }
-    requires fresh { All Idle (E.Flow.views traffic) }
-    ensures sound { ⟦<Server<E, Slotted> as Flow>⟧.sound result }
-    ensures fresh { All Idle (⟦<Server<E, Slotted> as Flow>⟧.views result) }
+pub(crate) fn bus<E: Flow + Drop>(traffic: E) -> Server<E, Bottom<Slotted>>
+    requires { All Idle (E.Flow.views traffic) }
+    ensures { All Idle (⟦<Server<E, Bottom<Slotted>> as Flow>⟧.views result) }
 {
     let slots = [
         0, 0, 0, 2, 0, 0, 0, 2, 0, 0, 0, 2, 0, 0, 0, 2, 0, 0, 0, 2, 0, 0, 0, 2, 0, 0, 0, 2, 0, 0,
@@ -96,11 +97,9 @@ pub(crate) fn bus<E: Flow + Drop>(traffic: E) -> Server<E, Slotted>
 }
 
 // The controller: one message in each tick.
-pub(crate) fn controller<E: Flow + Drop>(bus: E) -> Server<E, Steady>
-    requires sound { E.Flow.sound bus }
-    requires fresh { All Idle (E.Flow.views bus) }
-    ensures sound { ⟦<Server<E, Steady> as Flow>⟧.sound result }
-    ensures fresh { All Idle (⟦<Server<E, Steady> as Flow>⟧.views result) }
+pub(crate) fn controller<E: Flow + Drop>(bus: E) -> Server<E, Bottom<Steady>>
+    requires { All Idle (E.Flow.views bus) }
+    ensures { All Idle (⟦<Server<E, Bottom<Steady>> as Flow>⟧.views result) }
 {
     Server::build(bus, Steady::build(FRAME, 1))
 }

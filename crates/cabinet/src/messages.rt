@@ -52,12 +52,9 @@ pub(crate) struct Sent {
 }
 
 // What stands in a place that no message was put in.
-pub(crate) const NOTHING_SENT: Sent = Sent {
-    message: Message {
-        sender: Sender::Door,
-        number: 0,
-    },
-    since: 0,
+pub(crate) const NO_MESSAGE: Message = Message {
+    sender: Sender::Door,
+    number: 0,
 };
 
 impl Sent {

@@ -1,11 +1,12 @@
 // The cabinet in one mode of its chargers.
-ghost use Rattle.std.specs.Prelude.{◌≡◌, ◌≤◌, length, take, IfSome, IfOk};
+ghost use Rattle.std.specs.Prelude.{◌≡◌, ◌≤◌, length, map, take, IfSome, IfOk};
+ghost use Rattle.std.specs.List.{zip};
 ghost use Rattle.flows.specs.Views.{All, Idle};
 ghost use Rattle.cabinet.specs.Fours.{Each};
 
 use crate::delays::{longest, ticks_of};
 use crate::layers::{FRAME, Four, bus, controller, traffic};
-use crate::messages::{NOTHING_SENT, Sent, line_up};
+use crate::messages::{Message, NO_MESSAGE, Sent, line_up};
 use crate::sheets::{LONG, Sheet};
 use crate::watches::{Seen, TICKS, carry_all, watch};
 use flows::Flow;
@@ -54,7 +55,22 @@ pub(crate) fn first_of(list: &[u32], count: usize) -> &[u32]
     list.get(..count).unwrap_or(list)
 }
 
-// Runs the cabinet with messages, each with the tick of its arrival at the bus.
+// Messages, each with the tick in which it reached the bus.
+fn dated(heap: Global, messages: &[Message], since: &[usize]) -> Result<Vec<Sent>, AllocError>
+    ensures value { IfOk result (λ v. v.items ≡ map (λ p. record { message = p.0; since = p.1 }) (zip messages.now since.now)) }
+    ensures few { IfOk result (λ v. length v.items ≤ length messages.now) }
+{
+    messages
+        .iter()
+        .zip(since)
+        .map(|(message, since)| Sent {
+            message: *message,
+            since: *since,
+        })
+        .collect(heap)
+}
+
+// Runs the cabinet with cycle messages, and again with the ticks of their arrival at the bus.
 pub(crate) fn play<C: Flow + Copy + Drop>(
     heap: Global,
     chargers: &Four<C>,
@@ -62,8 +78,7 @@ pub(crate) fn play<C: Flow + Copy + Drop>(
     tables: &Tables,
     log: &mut Log,
 ) -> Result<Scene, AllocError>
-    requires sound { Each C.Flow.sound chargers.now }
-    requires fresh { Each (λ c. All Idle (C.Flow.views c)) chargers.now }
+    requires { Each (λ c. All Idle (C.Flow.views c)) chargers.now }
     ensures { IfOk result (λ s. length s.sent.items ≤ 352) }
 {
     let at_bus = watch(heap, bus(traffic(chargers, &sheet.door, &tables.door)), log)?;
@@ -72,20 +87,20 @@ pub(crate) fn play<C: Flow + Copy + Drop>(
     let below = bus(traffic(chargers, &sheet.door, &tables.door));
     let at_controller = watch(heap, controller(below), log)?;
 
-    let messages: Vec<Sent> = line_up(heap, sheet)?
-        .iter()
-        .zip(&came)
-        .map(|(message, since)| Sent {
-            message: *message,
-            since: *since,
-        })
-        .collect(heap)?;
+    let messages = line_up(heap, sheet)?;
     let below = bus(traffic(chargers, &sheet.door, &tables.door));
     let cabinet = Shaper::build(controller(below), tables.shaping);
-    let mut slots = [NOTHING_SENT; 16];
-    let mut out = [NOTHING_SENT; LONG];
+    let mut slots = [NO_MESSAGE; 16];
+    let mut out = [NO_MESSAGE; LONG];
     let carried = carry_all(cabinet, log, &mut slots, &messages, &mut out);
-    let sent = out[..carried.out].to_vec(heap)?;
+
+    let below = bus(traffic(chargers, &sheet.door, &tables.door));
+    let cabinet = Shaper::build(controller(below), tables.shaping);
+    let mut slots = [0; 16];
+    let mut since = [0; LONG];
+    let again = carry_all(cabinet, log, &mut slots, &came, &mut since);
+
+    let sent = dated(heap, &out[..carried.out], &since[..again.out])?;
 
     let ins = ticks_of(heap, first_of(log.arrived, TICKS))?;
     let outs = ticks_of(heap, first_of(log.passed, TICKS))?;

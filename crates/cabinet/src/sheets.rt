@@ -20,7 +20,6 @@ pub(crate) struct Sheet {
 
 // What a flow hands over.
 pub(crate) fn draws<F: Flow + Drop>(mut flow: F) -> Row
-    requires { F.Flow.sound flow }
     ensures { (k : ℕ) → k < 352 → slice_index result k ≡ F.Flow.course flow k }
 {
     let mut row = [0; LONG];

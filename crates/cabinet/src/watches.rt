@@ -36,8 +36,7 @@ fn run<P: Stage + Drop, M: Copy>(
     input: &[M],
     out: &mut [M],
 ) -> Carried
-    requires sound { P.Flow.sound network }
-    requires fresh { All Idle (P.Flow.views network) }
+    requires { All Idle (P.Flow.views network) }
     ensures wait { result.wait ≤ (P.Stage.top network).bounds.wait }
     ensures order { take result.out out.new ≡ take result.out input.now }
     ensures few { result.out ≤ length out.new }
@@ -58,8 +57,7 @@ pub(crate) fn watch<P: Stage + Drop>(
     network: P,
     log: &mut Log,
 ) -> Result<Seen, AllocError>
-    requires sound { P.Flow.sound network }
-    requires fresh { All Idle (P.Flow.views network) }
+    requires { All Idle (P.Flow.views network) }
     ensures { IfOk result (λ s. s.wait ≤ (P.Stage.top network).bounds.wait) }
 {
     let ran = run::<P, u32>(network, log, &mut [], &[Call::Tick; LONG], &[], &mut []);
@@ -79,8 +77,7 @@ pub(crate) fn carry_all<P: Stage + Drop, M: Copy>(
     input: &[M],
     out: &mut [M],
 ) -> Carried
-    requires sound { P.Flow.sound network }
-    requires fresh { All Idle (P.Flow.views network) }
+    requires { All Idle (P.Flow.views network) }
     ensures wait { result.wait ≤ (P.Stage.top network).bounds.wait }
     ensures order { take result.out out.new ≡ take result.out input.now }
     ensures few { result.out ≤ length out.new }

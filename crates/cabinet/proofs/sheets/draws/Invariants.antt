@@ -5,5 +5,4 @@ abbrev pub invariant-loop-count : goal.invariant-loop-count
 invariant-loop-count g l =
     ((k : ℕ) → k < l.count-index → get_or l.count-items k 0 ≡ g.F.Flow.course l.initial.flow k)
     × (length l.count-items ≡ 352)
-    × g.F.Flow.sound l.flow
     × ((k : ℕ) → g.F.Flow.course l.flow k ≡ g.F.Flow.course l.initial.flow (l.count-index + k))

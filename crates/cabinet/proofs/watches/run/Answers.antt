@@ -7,7 +7,7 @@ pub returns-clause-wait : goal.returns-clause-wait
 returns-clause-wait g c =
     let kept = c.work-worked.ensures.kept c.new-ring.ensures.holds in
     let w = waited g.P.Flow g.P.Stage g.met.P.Stage.first _ _ _ _ kept in
-    omega (arith, w, ap (λ (x : Sums). x.greatest) (c.sums-sums.ensures ∙ c.report.ensures.sums), ap (λ x. (g.P.Stage.top x).bounds.wait) c.new.ensures.network)
+    omega (arith, w, ap (λ (x : Sums). x.greatest) (c.sums-sums.ensures ∙ c.report.ensures.sums), ap (λ x. (g.P.Stage.top x).bounds.wait) c.new.ensures)
 
 pub returns-clause-order : goal.returns-clause-order
 returns-clause-order g c =
