@@ -18,6 +18,7 @@ pub fn check_sums(bytes: &Summed) -> CheckSums
     ensures sum { result.sum ≡ total bytes.now % 65535 }
     ensures running { result.running_sum ≡ running bytes.now % 65535 }
 {
+    // One loop for both sums: that they fit is known of a loop, and not of the closure of a fold.
     let mut sum: u32 = 0;
     let mut running_sum: u32 = 0;
     for byte in bytes {

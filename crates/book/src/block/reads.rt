@@ -24,6 +24,7 @@ fn parted<'a>(block: &'a [u8; 512]) -> Result<Block<'a>, Refusal>
         most,
         least,
     };
+    // The numbers of the kinds stand here alone: an enum of kinds would say each a second time.
     match *kind {
         1 => Ok(Block::Events(entries)),
         2 => Ok(Block::Service(entries)),

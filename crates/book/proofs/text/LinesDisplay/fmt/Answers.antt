@@ -21,12 +21,12 @@ loop-i-preserved g c = λ plain.
     let l = c.line-item.result in
     let here = c.in_ok-fmt.ensures.writes before.plain (refl {a = true}) in
     put_item all one (λ _. refl) (λ _ x xs. refl)
-    g.W.Write.write_str_gives c.args.f.now c.loop-i.f 2 c.args.self.now.lines.now c.loop-i.i
+    g.W.Write.write_str_gives c.args.f.now c.loop-i.f 2 c.args.self.now.0.now c.loop-i.i
     c.fmt.new.f l c.loop-i-test.true before
-    (has_written_of_eq g.W.Write.write_str_gives c.loop-i.f (one (2 + c.loop-i.i) l) (one (2 + c.loop-i.i) (get_or c.args.self.now.lines.now c.loop-i.i l)) c.fmt.new.f (ap (one (2 + c.loop-i.i)) c.line-item.is) here)
+    (has_written_of_eq g.W.Write.write_str_gives c.loop-i.f (one (2 + c.loop-i.i) l) (one (2 + c.loop-i.i) (get_or c.args.self.now.0.now c.loop-i.i l)) c.fmt.new.f (ap (one (2 + c.loop-i.i)) c.line-item.is) here)
 
 pub returns-clause-writes : goal.returns-clause-writes
 returns-clause-writes g c = λ plain _.
     put_items all one (λ _. refl) (λ _ x xs. refl)
-    g.W.Write.write_str_gives c.args.f.now c.loop-i.f 2 c.args.self.now.lines.now c.loop-i.i
+    g.W.Write.write_str_gives c.args.f.now c.loop-i.f 2 c.args.self.now.0.now c.loop-i.i
     c.loop-i-test.false (c.loop-i.invariant plain)
