@@ -1,10 +1,11 @@
 -- A block that is read, in a chain.
-use Rattle.std.proofs.Common.{◌≡◌, ℕ, suc, ◌/◌, ◌%◌, ◌≤◌, true, cond, ◌&&◌, eqb, leb, List, [], ◌∷◌, ◌++◌, length, take, drop, Ok, Err, Result, sym, ap, ◌∙◌}
+use Rattle.std.proofs.Common.{◌≡◌, ℕ, zero, suc, refl, ◌/◌, ◌%◌, ◌≤◌, true, cond, ◌&&◌, eqb, leb, List, [], ◌∷◌, ◌++◌, length, take, drop, Ok, Err, Result, sym, ap, ◌∙◌}
 use Rattle.std.proofs.lemmas.Bool.{cond-true, cond-false, eq-eqb, ne_eqb, eqb-true, leb-true, and_parts}
 use Rattle.tables.specs.Tables.{Curves}
 use Rattle.tables.specs.declared.refusal.Refusal.{Refusal}
 use Rattle.tables.specs.declared.refusal.Refusal.TheVariants.{Kind, Frame}
-use Rattle.book.specs.Books.{whole, or_turned, chain_on}
+use Rattle.std.specs.Simd.{first_chunks}
+use Rattle.book.specs.Books.{Chained, Turned, whole, or_turned, chain_on}
 use Rattle.book.specs.Chains.{Staged, and_then, block_pair, joins, serves, shapes, stage_answer, next_answer, first_answer}
 use Rattle.book.specs.Reads.{Read, read_answer}
 
@@ -24,16 +25,15 @@ module _ (p : Curves) (b : List ℕ) (r : Read) (is : Ok r ≡ read_answer b) wh
 pub starts : (b : List ℕ) (r : Read) → Ok r ≡ read_answer b → (x : Result Curves Refusal) → x ≡ cond (eqb r.kind 1) (block_pair r) (Err Kind) → x ≡ first_answer b
 starts b r is x is-first = is-first ∙ ap (λ y. and_then y (λ q. cond (eqb q.kind 1) (block_pair q) (Err Kind))) is
 
--- one block more of a chain that goes on
-module _ (f : Curves) (done : List Staged) (p : Curves) (n k j : ℕ) (bs : List ℕ) (more : k ≡ suc j) where
-  chain_more : chain_on f done p n k bs ≡ or_turned (suc n) (next_answer p (take 512 bs)) (λ s. chain_on f (done ++ s ∷ []) s.pair (suc n) j (drop 512 bs))
-  chain_more = ap (λ m. chain_on f done p n m bs) more
+-- the chain goes on over blocks that are cut already
+abbrev pub chain_over : Curves → List Staged → Curves → ℕ → List (List ℕ) → Result Chained Turned
+chain_over f done p n [] = Ok (record { first = f; stages = done })
+chain_over f done p n (b ∷ bs) = or_turned (suc n) (next_answer p b) (λ s. chain_over f (done ++ s ∷ []) s.pair (suc n) bs)
 
-  pub chain_goes : (s : Staged) → Ok s ≡ next_answer p (take 512 bs) → chain_on f done p n k bs ≡ chain_on f (done ++ s ∷ []) s.pair (suc n) j (drop 512 bs)
-  chain_goes s is = chain_more ∙ ap (λ x. or_turned (suc n) x (λ s. chain_on f (done ++ s ∷ []) s.pair (suc n) j (drop 512 bs))) (sym is)
-
-  pub chain_ends : (e : Refusal) → Err e ≡ next_answer p (take 512 bs) → chain_on f done p n k bs ≡ Err (record { refusal = e; block = suc n })
-  chain_ends e is = chain_more ∙ ap (λ x. or_turned (suc n) x (λ s. chain_on f (done ++ s ∷ []) s.pair (suc n) j (drop 512 bs))) (sym is)
+-- which is the chain over their bytes
+pub over_chunks : (f : Curves) (done : List Staged) (p : Curves) (n k : ℕ) (bs : List ℕ) → chain_on f done p n k bs ≡ chain_over f done p n (first_chunks 512 k bs)
+over_chunks f done p n zero bs = refl
+over_chunks f done p n (suc k) bs = λ i. or_turned (suc n) (next_answer p (take 512 bs)) (λ s. over_chunks f (done ++ s ∷ []) s.pair (suc n) k (drop 512 bs) i)
 
 pub whole_parts : (bs : List ℕ) → whole bs ≡ true → (length bs % 512 ≡ 0) × (1 ≤ length bs / 512) × (length bs / 512 ≤ 32)
 unfolding whole
