@@ -105,8 +105,12 @@ impl fmt::Display for Analysis {
     ghost output = { λ a. Some (listing_text (chained a)) };
 
     fn fmt<W: fmt::Write>(&self, f: &mut fmt::Formatter<W>) -> fmt::Result {
-        First(self.first()).fmt(f)?;
-        Lines(self.lines()).fmt(f)?;
-        self.totals().fmt(f)
+        write!(
+            f,
+            "{}{}{}",
+            First(self.first()),
+            Lines(self.lines()),
+            self.totals()
+        )
     }
 }

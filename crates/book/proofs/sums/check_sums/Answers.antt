@@ -1,5 +1,5 @@
 use Rattle.std.proofs.Common.{◌≡◌, ℕ, ◌+◌, List, [], ◌∷◌, ◌++◌, length, get_or, take, ap, ◌∙◌, arith, rules}
-use Rattle.std.proofs.lemmas.List.{take_more, take_all}
+use Rattle.std.proofs.lemmas.List.{take_more}
 use Rattle.book.specs.Sums.{total, running, running_from}
 use Rattle.book.proofs.sums.check_sums.Goals as goal
 
@@ -20,11 +20,3 @@ loop-byte-preserved c =
     let t = ap total (take_more xs i 0 (omega (arith, long, c.loop-byte-test.true))) ∙ total_push (take i xs) b in
     let r = ap running (take_more xs i 0 (omega (arith, long, c.loop-byte-test.true))) ∙ running_push 0 (take i xs) b in
     (omega arith, omega arith, search rules, search rules)
-
-pub returns : goal.returns
-returns c =
-    let long : length c.args.bytes.now ≡ 508 = search rules in
-    let all = take_all c.loop-byte.byte-index c.args.bytes.now (omega (arith, long, c.loop-byte-test.false)) in
-    let t = ap total all in
-    let r = ap running all in
-    record { sum = omega arith; running = omega arith }
