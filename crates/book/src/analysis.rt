@@ -11,6 +11,7 @@ mod sums;
 pub use makes::analyse;
 
 /// The pair of the first block, and a line for each block after it.
+// An analysis is `Copy` and needs no heap, and no list of changing length is both: so an array and a count.
 #[derive(Clone, Copy)]
 pub struct Analysis {
     first: Pair,
@@ -20,7 +21,7 @@ pub struct Analysis {
 }
 
 /// Why a book is turned down, and at which block, counted from 1; 0 where its length is wrong.
-#[derive(Clone, Copy)]
+#[derive(Clone, Copy, PartialEq, Eq, Debug)]
 pub struct Refused {
     pub refusal: Refusal,
     pub block: u32,
