@@ -11,10 +11,10 @@ mod sums;
 pub use makes::analyse;
 
 /// The pair of the first block, and a line for each block after it.
-// An analysis is `Copy` and needs no heap, and no list of changing length is both: so an array and a count.
 #[derive(Clone, Copy)]
 pub struct Analysis {
     first: Pair,
+    // An analysis is `Copy` and needs no heap. No list of changing length is both, so an array and a count.
     count: usize,
     lines: [Line; 31],
     ghost few: { count ≤ 31 },

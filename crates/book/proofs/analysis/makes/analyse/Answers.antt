@@ -1,20 +1,18 @@
 use Rattle.std.proofs.Common.{◌≡◌, ◌-◌, ◌/◌, true, [], length, take, Ok, sym, ap, ◌∙◌, arith, rules}
 use Rattle.std.proofs.lemmas.Bool.{cond-true}
+use Rattle.std.proofs.lemmas.Bool.Decides.{nat_tests}
 use Rattle.tables.specs.Tables.{curves}
 use Rattle.book.specs.Books.{whole, book_result, or_turned, started, chain_on}
 use Rattle.book.specs.Chains.{first_answer}
-use Rattle.book.proofs.Chaining.{whole_parts}
 use Rattle.book.proofs.analysis.makes.analyse.Goals as goal
 
 pub split_at-requires : goal.split_at-requires
-split_at-requires c =
-    let h : whole c.args.book.now ≡ true = search rules in
-    omega (arith, (whole_parts c.args.book.now h).1)
+unfolding whole
+split_at-requires c = grind (arith, nat_tests)
 
 pub chain_of-requires : goal.chain_of-requires
-chain_of-requires c =
-    let h : whole c.args.book.now ≡ true = search rules in
-    omega (arith, (whole_parts c.args.book.now h).1, (whole_parts c.args.book.now h).2, c.split_at.ensures.back_len)
+unfolding whole
+chain_of-requires c = grind (arith, nat_tests)
 
 pub returns : goal.returns
 returns c =
