@@ -1,10 +1,16 @@
 -- The parts of a block.
-use Rattle.std.proofs.Common.{◌≡◌, ℕ, ◌+◌, ◌-◌, ◌<◌, ◌≤◌, true, false, ◌&&◌, leb, List, [], ◌∷◌, length, get_or, take, drop, Ok, Err, sym, ap, ◌∙◌, inl, inr, arith}
+use Rattle.std.proofs.Common.{◌≡◌, ℕ, ◌+◌, ◌-◌, ◌<◌, ◌≤◌, Bool, true, false, cond, ◌&&◌, leb, List, [], ◌∷◌, length, get_or, take, drop, Ok, Err, refl, sym, ap, ◌∙◌, inl, inr, arith}
 use Rattle.std.proofs.lemmas.List.{drop_more, drop-drop, take_all, length-drop}
 use Rattle.std.proofs.lemmas.Bool.{le-leb, lt-leb, and_from, and_left, and_right, cond-true, cond-false, cases_lt}
+use Rattle.tables.specs.declared.refusal.Refusal.{Refusal}
 use Rattle.tables.specs.declared.refusal.Refusal.TheVariants.{Kind}
 use Rattle.book.specs.Layout.{all_zero, known, most_bytes, least_bytes}
 use Rattle.book.specs.Reads.{Read, parted_answer}
+
+-- a check that passed, and the value that it let through
+pub granted : {X : Type 0} (b : Bool) (x y : X) (e : Refusal) → Ok x ≡ cond b (Ok y) (Err e) → (b ≡ true) × (x ≡ y)
+granted true x y e h = (refl, cc)
+granted false x y e h = cc
 
 -- what follows the head of b is cut into the most entries, the least entries and what follows them
 module _ (b most after least last : List ℕ) (long : length b ≡ 512) (m : most ≡ take 192 (take (length b - 8) (drop 8 b))) (a : after ≡ drop 192 (take (length b - 8) (drop 8 b))) (l : least ≡ take 192 after) (z : last ≡ drop 192 after) where

@@ -1,14 +1,10 @@
-use Rattle.std.proofs.Common.{◌≡◌, Bool, true, false, cond, ◌&&◌, take, Ok, Err, refl, sym, ap, ◌∙◌}
+use Rattle.std.proofs.Common.{◌≡◌, true, ◌&&◌, take, sym, ap, ◌∙◌}
 use Rattle.std.proofs.lemmas.Bool.{cond-true, and_from}
 use Rattle.tables.specs.Makes.{answer, framed, pair_answer}
 use Rattle.tables.specs.Tables.{curves}
-use Rattle.tables.specs.declared.refusal.Refusal.{Refusal}
 use Rattle.book.specs.Chains.{kept, padded}
+use Rattle.book.proofs.Parts.{granted}
 use Rattle.book.proofs.block.Entries.pair.Goals as goal
-
-granted : {X : Type 0} (b : Bool) (x y : X) (e : Refusal) → Ok x ≡ cond b (Ok y) (Err e) → (b ≡ true) × (x ≡ y)
-granted true x y e h = (refl, cc)
-granted false x y e h = cc
 
 pub returns : goal.returns
 returns c =
