@@ -1,13 +1,9 @@
 -- Items of a list that are written one after another.
-use Rattle.std.proofs.Common.{◌≡◌, ℕ, suc, ◌+◌, ◌<◌, ◌≤◌, List, [], ◌∷◌, ◌++◌, length, get_or, take, sym, ap, ◌∙◌, append_assoc, append-nil, arith}
-use Rattle.std.proofs.Output.{writes_in_calls_nil, has_written_append, has_written_of_eq}
-use Rattle.std.proofs.lemmas.List.{take_more, take_all, length-take-le}
-use Rattle.std.specs.Fmt.{IsPlainFormatter, HasWritten}
+use Rattle.std.proofs.Common.{◌≡◌, ℕ, suc, ◌+◌, ◌<◌, List, [], ◌∷◌, ◌++◌, length, get_or, take, sym, ap, ◌∙◌, append_assoc, append-nil, arith}
+use Rattle.std.proofs.Output.{has_written_append, has_written_of_eq}
+use Rattle.std.proofs.lemmas.List.{take_more, length-take-le}
+use Rattle.std.specs.Fmt.{HasWritten}
 use Rattle.std.specs.declared.fmt.Formatter.{Formatter}
-
--- nothing is written yet
-pub put_none : {W : Type 0} (took : W → List ℕ → W → Type 0) (f : Formatter W) → IsPlainFormatter f → HasWritten took f [] f
-put_none took f plain = record { wrote = writes_in_calls_nil took f.writer; plain = plain }
 
 -- `all n` is the text of a list whose first item has the place n, and `one n` that of an item
 module _ {X : Type 0} (all : ℕ → List X → List ℕ) (one : ℕ → X → List ℕ) (none : (n : ℕ) → all n [] ≡ []) (step : (n : ℕ) (x : X) (xs : List X) → all n (x ∷ xs) ≡ one n x ++ all (suc n) xs) where
@@ -25,7 +21,3 @@ module _ {X : Type 0} (all : ℕ → List X → List ℕ) (one : ℕ → X → L
         has_written_of_eq took f (all n (take i xs) ++ one (n + i) (get_or xs i d)) (all n (take (i + 1) xs)) h
         (sym (ap (all n) (take_more xs i d less) ∙ all_append n (n + i) (take i xs) (get_or xs i d) (ap (λ k. n + k) (length-take-le i xs (omega arith)))))
         (has_written_append took f (all n (take i xs)) g (one (n + i) (get_or xs i d)) h before here)
-
-    -- past the last item
-    pub put_items : length xs ≤ i → HasWritten took f (all n (take i xs)) g → HasWritten took f (all n xs) g
-    put_items past = has_written_of_eq took f (all n (take i xs)) (all n xs) g (ap (all n) (take_all i xs past))

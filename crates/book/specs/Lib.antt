@@ -4,3 +4,4 @@ pub mod Reads
 pub mod Chains
 pub mod Books
 pub mod Text
+pub mod Answers

@@ -14,13 +14,14 @@ pub use makes::analyse;
 #[derive(Clone, Copy)]
 pub struct Analysis {
     first: Pair,
+    // An analysis is `Copy` and needs no heap. No list of changing length is both, so an array and a count.
     count: usize,
     lines: [Line; 31],
     ghost few: { count ≤ 31 },
 }
 
 /// Why a book is turned down, and at which block, counted from 1; 0 where its length is wrong.
-#[derive(Clone, Copy)]
+#[derive(Clone, Copy, PartialEq, Eq, Debug)]
 pub struct Refused {
     pub refusal: Refusal,
     pub block: u32,

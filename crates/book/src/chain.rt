@@ -22,6 +22,7 @@ fn join_line(chain: &Pair, entries: &Entries<'_>) -> Result<Line, Refusal>
     })
 }
 
+// The bounds of a server and of a shaper are two types: a `From` for each would say their ends twice as well.
 fn server_line(chain: &Pair, entries: &Entries<'_>) -> Result<Line, Refusal>
     ensures { answer staged result ≡ serves (curves chain.now) (read_as 2 entries.now) }
 {

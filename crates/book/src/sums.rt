@@ -1,5 +1,5 @@
 // The check sums of a block.
-ghost use Rattle.std.specs.Prelude.{◌≡◌, ℕ, ◌+◌, ◌*◌, ◌%◌, length};
+ghost use Rattle.std.specs.Prelude.{◌≡◌, ◌%◌};
 ghost use Rattle.book.specs.Layout.{checked};
 ghost use Rattle.book.specs.Sums.{total, running};
 
@@ -18,6 +18,7 @@ pub fn check_sums(bytes: &Summed) -> CheckSums
     ensures sum { result.sum ≡ total bytes.now % 65535 }
     ensures running { result.running_sum ≡ running bytes.now % 65535 }
 {
+    // One loop for both sums: that they fit is known of a loop, and not of the closure of a fold.
     let mut sum: u32 = 0;
     let mut running_sum: u32 = 0;
     for byte in bytes {
@@ -30,23 +31,11 @@ pub fn check_sums(bytes: &Summed) -> CheckSums
     }
 }
 
-fn two_bytes(high: u8, low: u8) -> u16
-    ensures { result ≡ 256 * high + low }
-{
-    256 * u16::from(high) + u16::from(low)
-}
-
 // Whether the check of a block holds its sums.
-pub fn is_checked(block: &[u8]) -> bool
-    requires { length block.now ≡ 512 }
+pub fn is_checked(block: &[u8; 512]) -> bool
     ensures { result ≡ checked block.now }
 {
-    let Some((bytes, check)) = block.split_first_chunk::<508>() else {
-        return false;
-    };
-    let [a, b, c, d] = check else {
-        return false;
-    };
-    let sums = check_sums(bytes);
-    sums.sum == two_bytes(*a, *b) && sums.running_sum == two_bytes(*c, *d)
+    let sums = check_sums(block.first_chunk::<508>().unwrap());
+    let [a, b, c, d] = block.last_chunk::<4>().unwrap();
+    sums.sum == u16::from_be_bytes([*a, *b]) && sums.running_sum == u16::from_be_bytes([*c, *d])
 }

@@ -13,15 +13,13 @@ use tables::Pair;
 
 // Counts in a row, each after one space.
 #[derive(Clone, Copy)]
-struct Row<'a> {
-    counts: &'a [u32],
-}
+struct Row<'a>(&'a [u32]);
 
 impl fmt::Display for Row<'_> {
-    ghost output = { λ r. Some (spaced r.counts.now) };
+    ghost output = { λ r. Some (spaced r.0.now) };
 
     fn fmt<W: fmt::Write>(&self, f: &mut fmt::Formatter<W>) -> fmt::Result {
-        for count in self.counts {
+        for count in self.0 {
             write!(f, " {count}")?;
         }
         Ok(())
@@ -30,23 +28,20 @@ impl fmt::Display for Row<'_> {
 
 // The frame, and the pair of the first block.
 #[derive(Clone, Copy)]
-struct First<'a> {
-    pair: &'a Pair,
-}
+struct First<'a>(&'a Pair);
 
 impl fmt::Display for First<'_> {
-    ghost output = { λ x. Some (first_text (curves x.pair.now)) };
+    ghost output = { λ x. Some (first_text (curves x.0.now)) };
 
     fn fmt<W: fmt::Write>(&self, f: &mut fmt::Formatter<W>) -> fmt::Result {
-        let pair = self.pair;
-        let frame = pair.most.frame();
-        let most = Row {
-            counts: pair.most.entries(),
-        };
-        let least = Row {
-            counts: pair.least.entries(),
-        };
-        writeln!(f, "frame {frame}\n1 events most{most} least{least}")
+        let Pair { most, least, .. } = self.0;
+        writeln!(
+            f,
+            "frame {}\n1 events most{} least{}",
+            most.frame(),
+            Row(most.entries()),
+            Row(least.entries())
+        )
     }
 }
 
@@ -62,19 +57,15 @@ impl fmt::Display for Placed<'_> {
 
     fn fmt<W: fmt::Write>(&self, f: &mut fmt::Formatter<W>) -> fmt::Result {
         let line = self.line;
-        let place = self.place;
-        let stage = line.stage;
-        let most = Row {
-            counts: line.pair.most.entries(),
-        };
-        let least = Row {
-            counts: line.pair.least.entries(),
-        };
-        let wait = line.wait;
-        let delay = line.delay;
         writeln!(
             f,
-            "{place} {stage} most{most} least{least} wait {wait} delay {delay}"
+            "{} {} most{} least{} wait {} delay {}",
+            self.place,
+            line.stage,
+            Row(line.pair.most.entries()),
+            Row(line.pair.least.entries()),
+            line.wait,
+            line.delay
         )
     }
 }
@@ -83,9 +74,7 @@ impl fmt::Display for Refused {
     ghost output = { λ x. Some (refused_text (turned x)) };
 
     fn fmt<W: fmt::Write>(&self, f: &mut fmt::Formatter<W>) -> fmt::Result {
-        let number = self.refusal.number();
-        let block = self.block;
-        writeln!(f, "refused {number} block {block}")
+        writeln!(f, "refused {} block {}", self.refusal.number(), self.block)
     }
 }
 
@@ -93,23 +82,19 @@ impl fmt::Display for Totals {
     ghost output = { λ t. Some (totals_text t.wait t.delay) };
 
     fn fmt<W: fmt::Write>(&self, f: &mut fmt::Formatter<W>) -> fmt::Result {
-        let wait = self.wait;
-        let delay = self.delay;
-        writeln!(f, "total wait {wait} delay {delay}")
+        writeln!(f, "total wait {} delay {}", self.wait, self.delay)
     }
 }
 
 // The lines of the blocks after the first, one after another.
 #[derive(Clone, Copy)]
-struct Lines<'a> {
-    lines: &'a [Line],
-}
+struct Lines<'a>(&'a [Line]);
 
 impl fmt::Display for Lines<'_> {
-    ghost output = { λ x. Some (lines_text 2 (map staged x.lines.now)) };
+    ghost output = { λ x. Some (lines_text 2 (map staged x.0.now)) };
 
     fn fmt<W: fmt::Write>(&self, f: &mut fmt::Formatter<W>) -> fmt::Result {
-        for (i, line) in self.lines.iter().enumerate() {
+        for (i, line) in self.0.iter().enumerate() {
             Placed { place: 2 + i, line }.fmt(f)?;
         }
         Ok(())
@@ -120,11 +105,12 @@ impl fmt::Display for Analysis {
     ghost output = { λ a. Some (listing_text (chained a)) };
 
     fn fmt<W: fmt::Write>(&self, f: &mut fmt::Formatter<W>) -> fmt::Result {
-        First { pair: self.first() }.fmt(f)?;
-        Lines {
-            lines: self.lines(),
-        }
-        .fmt(f)?;
-        self.totals().fmt(f)
+        write!(
+            f,
+            "{}{}{}",
+            First(self.first()),
+            Lines(self.lines()),
+            self.totals()
+        )
     }
 }

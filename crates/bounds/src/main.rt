@@ -1,12 +1,11 @@
 // Prints the bounds of the chain that a book on standard input describes.
 #![tactic(auto)]
 
-ghost use Rattle.std.specs.Prelude.{◌≡◌, ◌≤◌, true, length, is_ok, IfOk, OnOk};
+ghost use Rattle.std.specs.Prelude.{◌≡◌, true, is_ok, OnOk};
 ghost use Rattle.book.specs.Books.{book_answer};
 
 use anyhow::anyhow;
-use book::answer_of;
-use std::io;
+use book::{Answer, answer_of};
 use std::io::Read;
 use std::process::ExitCode;
 
@@ -14,40 +13,25 @@ use std::process::ExitCode;
 mod tests;
 
 // The longest book, and one byte more, by which a longer one is known.
-const ENOUGH: usize = 32 * 512 + 1;
-
-// Reads until the buffer is full or the input ends, and says how far.
-fn fill(input: &mut impl Read, buffer: &mut [u8]) -> io::Result<usize>
-    ensures { IfOk result (λ n. n ≤ length buffer.old) }
-{
-    let mut filled = 0;
-    for _ in 0..=buffer.len() {
-        let got = input.read(&mut buffer[filled..])?;
-        if got == 0 {
-            break;
-        }
-        filled += got;
-    }
-    Ok(filled)
-}
+const ENOUGH: u64 = 32 * 512 + 1;
 
 // Prints what comes of a book, and ends well only where it is accepted.
 fn print_answer(rt: &HostRuntime, book: &[u8]) -> anyhow::Result<()>
     ensures { OnOk result (is_ok (book_answer book.now) ≡ true) }
 {
-    let answer = answer_of(rt.alloc(), book)?;
-    rt.print(answer.text.as_str())?;
-    if answer.accepted {
-        Ok(())
-    } else {
-        Err(anyhow!("the book is refused"))
+    match answer_of(rt.alloc(), book)? {
+        Answer::Listing(text) => Ok(rt.print(text.as_str())?),
+        Answer::Refused(text) => {
+            rt.print(text.as_str())?;
+            Err(anyhow!("the book is refused"))
+        }
     }
 }
 
 fn run(rt: &HostRuntime) -> anyhow::Result<()> {
-    let mut buffer = [0; ENOUGH];
-    let length = fill(&mut rt.stdin(), &mut buffer)?;
-    print_answer(rt, &buffer[0..length])
+    let mut book = Vec::new(rt.alloc());
+    rt.stdin().take(ENOUGH).read_to_end(&mut book)?;
+    print_answer(rt, &book)
 }
 
 // Ends with status 0 or 1, and writes nothing to standard error.

@@ -34,9 +34,8 @@ impl Analysis {
         ensures stages { (chained self.new).stages ≡ (chained self.old).stages ++ staged line ∷ [] }
         ensures count { self.new.count ≡ self.old.count + 1 }
     {
-        let count = self.count;
-        self.lines[count] = line;
-        self.count = count + 1;
+        self.lines[self.count] = line;
+        self.count += 1;
     }
 
     /// The pair of the first block.

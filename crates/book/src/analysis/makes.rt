@@ -1,6 +1,6 @@
-ghost use Rattle.std.specs.Prelude.{◌≡◌, ◌-◌, ◌/◌, true, length};
+ghost use Rattle.std.specs.Prelude.{◌≡◌, ◌/◌, ◌≤◌, [], length};
 ghost use Rattle.tables.specs.Tables.{curves};
-ghost use Rattle.book.specs.Books.{whole, book_answer, book_result, chain_on, started};
+ghost use Rattle.book.specs.Books.{whole, book_answer, book_result, chain_on};
 
 use super::{Analysis, Refused};
 use crate::chain::{first_pair, next_line};
@@ -10,28 +10,25 @@ use tables::{Pair, Refusal};
 fn is_whole(book: &[u8]) -> bool
     ensures { result ≡ whole book.now }
 {
-    let blocks = book.len() / 512;
-    book.len() % 512 == 0 && blocks >= 1 && blocks <= 32
+    let (blocks, rest) = book.as_chunks::<512>();
+    rest.is_empty() && (1..=32).contains(&blocks.len())
 }
 
-// The chain of the blocks after the first, which has the pair.
-fn chain_of(first: Pair, book: &[u8]) -> Result<Analysis, Refused>
-    requires { whole book.now ≡ true }
-    ensures { book_result result ≡ started book.now (curves first) }
+// The chain of the other blocks after a first one, which has the pair.
+fn chain_of(first: Pair, others: &[u8]) -> Result<Analysis, Refused>
+    requires { length others.now / 512 ≤ 31 }
+    ensures { book_result result ≡ chain_on (curves first) [] (curves first) 1 (length others.now / 512) others.now }
 {
     let mut analysis = Analysis::of(first);
     let mut pair = first;
-    for n in 1..book.len() / 512 {
-        match next_line(&pair, &book[512 * n..512 * n + 512]) {
-            Ok(line) => {
-                analysis.add(line);
-                pair = line.pair;
-            }
-            Err(refusal) => {
-                let block = n as u32 + 1;
-                return Err(Refused { refusal, block });
-            }
-        }
+    let (blocks, _) = others.as_chunks::<512>();
+    for (n, block) in blocks.iter().enumerate() {
+        let line = next_line(&pair, block).map_err(|refusal| Refused {
+            refusal,
+            block: n as u32 + 2,
+        })?;
+        analysis.add(line);
+        pair = line.pair;
     }
     Ok(analysis)
 }
@@ -46,8 +43,7 @@ pub fn analyse(book: &[u8]) -> Result<Analysis, Refused>
             block: 0,
         });
     }
-    match first_pair(&book[0..512]) {
-        Ok(first) => chain_of(first, book),
-        Err(refusal) => Err(Refused { refusal, block: 1 }),
-    }
+    let (first, others) = book.split_at(512);
+    let pair = first_pair(first).map_err(|refusal| Refused { refusal, block: 1 })?;
+    chain_of(pair, others)
 }

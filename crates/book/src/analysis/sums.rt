@@ -11,13 +11,10 @@ fn totals_of(lines: &[Line]) -> Totals
     ensures wait { result.wait ≡ total_wait (map staged lines.now) }
     ensures delay { result.delay ≡ total_delay (map staged lines.now) }
 {
-    let mut wait: u64 = 0;
-    let mut delay: u64 = 0;
-    for line in lines {
-        wait += line.wait as u64;
-        delay += line.delay as u64;
+    Totals {
+        wait: lines.iter().map(|line| u64::from(line.wait)).sum(),
+        delay: lines.iter().map(|line| u64::from(line.delay)).sum(),
     }
-    Totals { wait, delay }
 }
 
 impl Analysis {

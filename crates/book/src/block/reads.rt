@@ -1,4 +1,4 @@
-ghost use Rattle.std.specs.Prelude.{◌≡◌, ℕ, length};
+ghost use Rattle.std.specs.Prelude.{◌≡◌};
 ghost use Rattle.tables.specs.Makes.{answer};
 ghost use Rattle.book.specs.Reads.{block_read, parted_answer, read_answer};
 
@@ -8,23 +8,15 @@ use crate::zeros::is_zero;
 use tables::Refusal;
 
 // Takes a block apart: `Kind` where the kind is unknown or a fixed zero is not 0.
-fn parted<'a>(block: &'a [u8]) -> Result<Block<'a>, Refusal>
-    requires { length block.now ≡ 512 }
+fn parted<'a>(block: &'a [u8; 512]) -> Result<Block<'a>, Refusal>
     ensures { answer block_read result ≡ parted_answer block.now }
 {
-    let [kind, frame, z0, z1, z2, z3, z4, z5, rest @ ..] = block else {
-        return Err(Refusal::Kind);
+    let [kind, frame, z0, z1, z2, z3, z4, z5, rest @ ..] = block.as_slice() else {
+        unreachable!()
     };
-    let Some((most, rest)) = rest.split_first_chunk::<192>() else {
-        return Err(Refusal::Kind);
-    };
-    let Some((least, rest)) = rest.split_first_chunk::<192>() else {
-        return Err(Refusal::Kind);
-    };
-    if !is_zero(&[*z0, *z1, *z2, *z3, *z4, *z5]) {
-        return Err(Refusal::Kind);
-    }
-    if !is_zero(&rest[0..116]) {
+    let (most, rest) = rest.split_first_chunk::<192>().unwrap();
+    let (least, rest) = rest.split_first_chunk::<192>().unwrap();
+    if !is_zero(&[*z0, *z1, *z2, *z3, *z4, *z5]) || !is_zero(&rest[0..116]) {
         return Err(Refusal::Kind);
     }
     let entries = Entries {
@@ -32,6 +24,7 @@ fn parted<'a>(block: &'a [u8]) -> Result<Block<'a>, Refusal>
         most,
         least,
     };
+    // The numbers of the kinds stand here alone: an enum of kinds would say each a second time.
     match *kind {
         1 => Ok(Block::Events(entries)),
         2 => Ok(Block::Service(entries)),
@@ -46,9 +39,7 @@ impl<'a> Block<'a> {
     pub fn read(block: &'a [u8]) -> Result<Block<'a>, Refusal>
         ensures { answer block_read result ≡ read_answer block.now }
     {
-        if block.len() != 512 {
-            return Err(Refusal::Length);
-        }
+        let block = <&[u8; 512]>::try_from(block).map_err(|_| Refusal::Length)?;
         if !is_checked(block) {
             return Err(Refusal::Check);
         }
@@ -59,9 +50,8 @@ impl<'a> Block<'a> {
         ensures { result ≡ (block_read self.now).frame }
     {
         match self {
-            Block::Events(entries) => entries.frame,
-            Block::Service(entries) => entries.frame,
-            Block::Shaping(entries) => entries.frame,
+            Block::Events(entries) | Block::Service(entries) | Block::Shaping(entries) =>
+                entries.frame,
         }
     }
 }

@@ -1,14 +1,12 @@
 // Blocks and books laid out for the tests.
-ghost use Rattle.std.specs.Prelude.{◌≡◌, ℕ, ◌+◌, ◌<◌, ◌≤◌, true, ◌⊎◌, take, IfOk, slice_index};
+ghost use Rattle.std.specs.Prelude.{◌≡◌, ℕ, ◌+◌, ◌<◌, ◌≤◌, true, ◌⊎◌, take, slice_index};
 ghost use Rattle.std.specs.Option.{option_map};
 ghost use Rattle.std.specs.Result.{result_err};
-ghost use Rattle.std.specs.List.{flat_map};
 ghost use Rattle.tables.specs.Refusals.{number_of};
 ghost use Rattle.book.specs.Books.{book_answer};
 ghost use Rattle.book.specs.Layout.{checked};
 
 use book::{analyse, check_sums};
-use std::alloc::{AllocError, Global};
 
 pub const EVENTS: u8 = 1;
 
@@ -23,10 +21,8 @@ fn put(bytes: &mut [u8; 508], place: usize, counts: &[u32])
 {
     for (k, count) in counts.iter().enumerate() {
         if k < 64 {
-            let [_, high, middle, low] = count.to_be_bytes();
-            bytes[place + 3 * k] = high;
-            bytes[place + 3 * k + 1] = middle;
-            bytes[place + 3 * k + 2] = low;
+            let at = place + 3 * k;
+            bytes[at..at + 3].copy_from_slice(&count.to_be_bytes()[1..]);
         }
     }
 }
@@ -72,23 +68,11 @@ pub(crate) fn block(kind: u8, frame: u8, most: &[u32], least: &[u32]) -> [u8; 51
     summed(&laid_out(kind, frame, most, least))
 }
 
-// The blocks in a row.
-pub(crate) fn book_of(heap: Global, blocks: &[[u8; 512]]) -> Result<Vec<u8>, AllocError>
-    ensures { IfOk result (λ v. v.items ≡ flat_map (λ b. b) blocks.now) }
-{
-    let mut bytes = Vec::new(heap);
-    for block in blocks {
-        bytes.extend_from_slice(block)?;
-    }
-    Ok(bytes)
-}
-
 // The number and the block of a refusal; `None` where the book is accepted.
 pub(crate) fn refused(book: &[u8]) -> Option<(u8, u32)>
     ensures { result ≡ option_map (λ t. (number_of t.refusal, t.block)) (result_err (book_answer book.now)) }
 {
-    match analyse(book) {
-        Ok(_) => None,
-        Err(refused) => Some((refused.refusal.number(), refused.block)),
-    }
+    analyse(book)
+        .err()
+        .map(|refused| (refused.refusal.number(), refused.block))
 }

@@ -1,25 +1,23 @@
 // Which refusal is given where several hold.
 ghost use Rattle.std.specs.Prelude.{◌≡◌, bit_xor, slice_index, slice_set};
 
-use super::blocks::{EVENTS, SERVICE, SHAPING, block, book_of, refused};
-use std::test::Fail;
+use super::blocks::{EVENTS, SERVICE, SHAPING, block, refused};
 
 // A block whose check is wrong.
 fn unchecked(block: [u8; 512]) -> [u8; 512]
     ensures { result ≡ slice_set block 511 (bit_xor (slice_index block 511) 1) }
 {
     let mut wrong = block;
-    wrong[511] = block[511] ^ 1;
+    wrong[511] ^= 1;
     wrong
 }
 
 // The length before all else.
 #[test]
-fn length_first(rt: HostRuntime) -> Result<(), Fail> {
+fn length_first(rt: HostRuntime) {
     let zeros = [0; 512];
     assert_eq!(rt; refused(&zeros[0..511]), Some((1, 0)));
-    assert_eq!(rt; refused(&book_of(rt.alloc(), &[zeros; 33])?), Some((1, 0)));
-    Ok(())
+    assert_eq!(rt; refused([zeros; 33].as_flattened()), Some((1, 0)));
 }
 
 // In the first block the smallest number.
@@ -44,8 +42,7 @@ fn first_block(rt: HostRuntime) {
 
 // In a later block the smallest number.
 #[test]
-fn later_block(rt: HostRuntime) -> Result<(), Fail> {
-    let heap = rt.alloc();
+fn later_block(rt: HostRuntime) {
     let first = block(EVENTS, 4, &[3, 3, 3, 900_000], &[0, 0, 0, 0]);
     let cases = [
         (unchecked(block(4, 4, &[], &[])), 2),
@@ -65,35 +62,29 @@ fn later_block(rt: HostRuntime) -> Result<(), Fail> {
         (block(EVENTS, 4, &[0, 0, 0, 100_001], &[]), 8),
     ];
     for (second, number) in cases {
-        assert_eq!(rt;
-            refused(&book_of(heap, &[first, second])?),
-            Some((number, 2))
-        );
+        assert_eq!(rt; refused([first, second].as_flattened()), Some((number, 2)));
     }
-    Ok(())
 }
 
 // The first block with a refusal, though a later one has a smaller number.
 #[test]
-fn earlier_block(rt: HostRuntime) -> Result<(), Fail> {
-    let heap = rt.alloc();
+fn earlier_block(rt: HostRuntime) {
     let events = block(EVENTS, 1, &[1], &[0]);
     let falling = block(EVENTS, 2, &[2, 1], &[]);
     let overload = block(SERVICE, 1, &[1], &[0]);
     let crowd = block(EVENTS, 1, &[1_000_000], &[0]);
     let wrong = unchecked(events);
-    assert_eq!(rt; refused(&book_of(heap, &[falling, wrong])?), Some((5, 1)));
+    assert_eq!(rt; refused([falling, wrong].as_flattened()), Some((5, 1)));
     assert_eq!(rt;
-        refused(&book_of(heap, &[events, overload, wrong])?),
+        refused([events, overload, wrong].as_flattened()),
         Some((7, 2))
     );
     assert_eq!(rt;
-        refused(&book_of(heap, &[events, crowd, overload])?),
+        refused([events, crowd, overload].as_flattened()),
         Some((8, 2))
     );
     assert_eq!(rt;
-        refused(&book_of(heap, &[events, events, overload, crowd])?),
+        refused([events, events, overload, crowd].as_flattened()),
         Some((7, 3))
     );
-    Ok(())
 }

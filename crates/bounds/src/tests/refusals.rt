@@ -1,22 +1,20 @@
 // Each refusal of a book, and the nearest book that is accepted.
-use super::blocks::{EVENTS, SERVICE, SHAPING, block, book_of, laid_out, refused, summed};
-use std::test::Fail;
+use super::blocks::{EVENTS, SERVICE, SHAPING, block, laid_out, refused, summed};
 
 #[test]
-fn length(rt: HostRuntime) -> Result<(), Fail> {
-    let heap = rt.alloc();
+fn length(rt: HostRuntime) {
     let one = block(EVENTS, 1, &[1], &[0]);
-    let two = book_of(heap, &[one; 2])?;
+    let blocks = [one; 2];
+    let two = blocks.as_flattened();
     assert!(rt; two.len() == 1024);
     for length in [0, 1, 511, 513, 1023] {
         assert!(rt; length < 1024);
         assert_eq!(rt; refused(&two[0..length]), Some((1, 0)));
     }
     assert_eq!(rt; refused(&two[0..512]), None);
-    assert_eq!(rt; refused(&two), None);
-    assert_eq!(rt; refused(&book_of(heap, &[one; 32])?), None);
-    assert_eq!(rt; refused(&book_of(heap, &[one; 33])?), Some((1, 0)));
-    Ok(())
+    assert_eq!(rt; refused(two), None);
+    assert_eq!(rt; refused([one; 32].as_flattened()), None);
+    assert_eq!(rt; refused([one; 33].as_flattened()), Some((1, 0)));
 }
 
 #[test]
@@ -25,7 +23,7 @@ fn check_sum(rt: HostRuntime) {
     assert_eq!(rt; refused(&right), None);
     for place in 508..512 {
         let mut wrong = right;
-        wrong[place] = right[place] ^ 1;
+        wrong[place] ^= 1;
         assert_eq!(rt; refused(&wrong), Some((2, 1)));
     }
     // Another entry, and two bytes that changed places, under the same check.
@@ -44,15 +42,14 @@ fn check_sum(rt: HostRuntime) {
 }
 
 #[test]
-fn kind(rt: HostRuntime) -> Result<(), Fail> {
-    let heap = rt.alloc();
+fn kind(rt: HostRuntime) {
     let first = block(EVENTS, 1, &[1], &[0]);
     for kind in [0, 2, 3, 4, 255] {
         assert_eq!(rt; refused(&block(kind, 1, &[1], &[0])), Some((3, 1)));
     }
     for kind in [0, 4, 255] {
         let blocks = [first, block(kind, 1, &[1], &[0])];
-        assert_eq!(rt; refused(&book_of(heap, &blocks)?), Some((3, 2)));
+        assert_eq!(rt; refused(blocks.as_flattened()), Some((3, 2)));
     }
     let right = laid_out(EVENTS, 1, &[1], &[0]);
     for place in 2..8 {
@@ -65,12 +62,10 @@ fn kind(rt: HostRuntime) -> Result<(), Fail> {
         wrong[place] = 1;
         assert_eq!(rt; refused(&summed(&wrong)), Some((3, 1)));
     }
-    Ok(())
 }
 
 #[test]
-fn frame(rt: HostRuntime) -> Result<(), Fail> {
-    let heap = rt.alloc();
+fn frame(rt: HostRuntime) {
     for frame in [0, 65, 255] {
         assert_eq!(rt; refused(&block(EVENTS, frame, &[], &[])), Some((4, 1)));
     }
@@ -78,15 +73,13 @@ fn frame(rt: HostRuntime) -> Result<(), Fail> {
     for kind in [EVENTS, SERVICE, SHAPING] {
         for frame in [0, 1, 3, 65] {
             let blocks = [first, block(kind, frame, &[], &[])];
-            assert_eq!(rt; refused(&book_of(heap, &blocks)?), Some((4, 2)));
+            assert_eq!(rt; refused(blocks.as_flattened()), Some((4, 2)));
         }
     }
-    Ok(())
 }
 
 #[test]
-fn table(rt: HostRuntime) -> Result<(), Fail> {
-    let heap = rt.alloc();
+fn table(rt: HostRuntime) {
     let mut last = [0; 64];
     last[63] = 1;
     let wrong = [
@@ -109,29 +102,25 @@ fn table(rt: HostRuntime) -> Result<(), Fail> {
     let first = block(EVENTS, 2, &[1, 1], &[0, 0]);
     for least in [[1, 1, 0], [0, 1, 0], [0, 0, 1]] {
         let blocks = [first, block(SHAPING, 2, &[1, 2], &least)];
-        assert_eq!(rt; refused(&book_of(heap, &blocks)?), Some((5, 2)));
+        assert_eq!(rt; refused(blocks.as_flattened()), Some((5, 2)));
     }
     let blocks = [first, block(SHAPING, 2, &[1, 2], &[])];
-    assert_eq!(rt; refused(&book_of(heap, &blocks)?), None);
-    Ok(())
+    assert_eq!(rt; refused(blocks.as_flattened()), None);
 }
 
 #[test]
-fn shape(rt: HostRuntime) -> Result<(), Fail> {
-    let heap = rt.alloc();
+fn shape(rt: HostRuntime) {
     let first = block(EVENTS, 4, &[1, 1, 1, 1], &[0, 0, 0, 0]);
     for counts in [[1, 1, 1, 3], [1, 1, 1, 2]] {
         let blocks = [first, block(SHAPING, 4, &counts, &[])];
-        assert_eq!(rt; refused(&book_of(heap, &blocks)?), Some((6, 2)));
+        assert_eq!(rt; refused(blocks.as_flattened()), Some((6, 2)));
     }
     let blocks = [first, block(SHAPING, 4, &[1, 1, 2, 2], &[])];
-    assert_eq!(rt; refused(&book_of(heap, &blocks)?), None);
-    Ok(())
+    assert_eq!(rt; refused(blocks.as_flattened()), None);
 }
 
 #[test]
-fn overload(rt: HostRuntime) -> Result<(), Fail> {
-    let heap = rt.alloc();
+fn overload(rt: HostRuntime) {
     let one = block(EVENTS, 1, &[1], &[0]);
     let two = block(EVENTS, 1, &[2], &[0]);
     let wrong = [
@@ -140,29 +129,23 @@ fn overload(rt: HostRuntime) -> Result<(), Fail> {
         [two, block(SHAPING, 1, &[1], &[])],
     ];
     for blocks in wrong {
-        assert_eq!(rt; refused(&book_of(heap, &blocks)?), Some((7, 2)));
+        assert_eq!(rt; refused(blocks.as_flattened()), Some((7, 2)));
     }
     let right = [
         [one, block(SERVICE, 1, &[1], &[1])],
         [two, block(SHAPING, 1, &[2], &[])],
     ];
     for blocks in right {
-        assert_eq!(rt; refused(&book_of(heap, &blocks)?), None);
+        assert_eq!(rt; refused(blocks.as_flattened()), None);
     }
-    Ok(())
 }
 
 #[test]
-fn crowd(rt: HostRuntime) -> Result<(), Fail> {
-    let heap = rt.alloc();
+fn crowd(rt: HostRuntime) {
     let first = block(EVENTS, 2, &[1, 600_000], &[0, 0]);
     let fits = block(EVENTS, 2, &[2, 400_000], &[0, 0]);
     let crowds = block(EVENTS, 2, &[2, 400_001], &[0, 0]);
-    assert_eq!(rt; refused(&book_of(heap, &[first, fits])?), None);
-    assert_eq!(rt; refused(&book_of(heap, &[first, crowds])?), Some((8, 2)));
-    assert_eq!(rt;
-        refused(&book_of(heap, &[first, fits, fits])?),
-        Some((8, 3))
-    );
-    Ok(())
+    assert_eq!(rt; refused([first, fits].as_flattened()), None);
+    assert_eq!(rt; refused([first, crowds].as_flattened()), Some((8, 2)));
+    assert_eq!(rt; refused([first, fits, fits].as_flattened()), Some((8, 3)));
 }

@@ -1,10 +1,8 @@
 // Tables, pairs, and the bounds of a server, a shaper and a join.
 ghost use Rattle.std.specs.Prelude.{◌≡◌};
 ghost use Rattle.std.specs.Option.{option_map};
-ghost use Rattle.std.specs.Result.{result_err, result_ok};
-ghost use Rattle.tables.specs.Makes.{pair_answer, table_answer};
+ghost use Rattle.std.specs.Result.{result_err};
 ghost use Rattle.tables.specs.Refusals.{number_of};
-ghost use Rattle.tables.specs.Tables.{curve, curves};
 
 use std::test::Fail;
 use tables::{Pair, Refusal, Table, joined, server_bounds, shaper_bounds};
@@ -13,28 +11,7 @@ use tables::{Pair, Refusal, Table, joined, server_bounds, shaper_bounds};
 fn number<T: Copy>(answer: Result<T, Refusal>) -> Option<u8>
     ensures { result ≡ option_map number_of (result_err answer) }
 {
-    match answer {
-        Ok(_) => None,
-        Err(refusal) => Some(refusal.number()),
-    }
-}
-
-fn table(counts: &[u32]) -> Result<Table, Fail>
-    ensures { option_map curve (result_ok result) ≡ result_ok (table_answer counts.now) }
-{
-    match Table::new(counts) {
-        Ok(table) => Ok(table),
-        Err(refusal) => Err(Fail::new(refusal.word())),
-    }
-}
-
-fn pair(most: &[u32], least: &[u32]) -> Result<Pair, Fail>
-    ensures { option_map curves (result_ok result) ≡ result_ok (pair_answer most.now least.now) }
-{
-    match Pair::new(most, least) {
-        Ok(pair) => Ok(pair),
-        Err(refusal) => Err(Fail::new(refusal.word())),
-    }
+    answer.err().map(|refusal| refusal.number())
 }
 
 #[test]
@@ -62,7 +39,7 @@ fn pairs(rt: HostRuntime) {
 
 #[test]
 fn repeated_entries(rt: HostRuntime) -> Result<(), Fail> {
-    let short = table(&[2, 3, 3, 4])?;
+    let short = Table::new(&[2, 3, 3, 4])?;
     let cases = [
         (0, 0),
         (1, 2),
@@ -79,18 +56,16 @@ fn repeated_entries(rt: HostRuntime) -> Result<(), Fail> {
     for (length, count) in cases {
         assert_eq!(rt; short.at(length), count);
     }
-    let full = table(&[1_000_000])?;
+    let full = Table::new(&[1_000_000])?;
     assert_eq!(rt; full.at(4_294_967_295), 4_294_967_295_000_000);
     Ok(())
 }
 
 #[test]
 fn server(rt: HostRuntime) -> Result<(), Fail> {
-    let events = pair(&[2, 3, 3, 4], &[0, 0, 1, 2])?;
-    let service = pair(&[2, 3, 4, 4], &[0, 1, 2, 4])?;
-    let Ok(bounds) = server_bounds(&events, &service) else {
-        return Err(Fail::new("the server is refused"));
-    };
+    let events = Pair::new(&[2, 3, 3, 4], &[0, 0, 1, 2])?;
+    let service = Pair::new(&[2, 3, 4, 4], &[0, 1, 2, 4])?;
+    let bounds = server_bounds(&events, &service)?;
     assert_eq!(rt; bounds.settling, 4);
     assert_eq!(rt; bounds.wait, 2);
     assert_eq!(rt; bounds.delay, 2);
@@ -98,37 +73,35 @@ fn server(rt: HostRuntime) -> Result<(), Fail> {
     assert_eq!(rt; bounds.passed.least.entries(), [0, 0, 0, 1].as_slice());
     assert_eq!(rt; bounds.rest.most.entries(), [2, 3, 3, 3].as_slice());
     assert_eq!(rt; bounds.rest.least.entries(), [0, 0, 0, 0].as_slice());
-    let other = pair(&[2, 3, 4], &[0, 1, 2])?;
+    let other = Pair::new(&[2, 3, 4], &[0, 1, 2])?;
     assert_eq!(rt; number(server_bounds(&events, &other)), Some(4));
-    let slow = pair(&[2, 3, 4, 4], &[0, 1, 2, 3])?;
+    let slow = Pair::new(&[2, 3, 4, 4], &[0, 1, 2, 3])?;
     assert_eq!(rt; number(server_bounds(&events, &slow)), Some(7));
     Ok(())
 }
 
 #[test]
 fn shaper(rt: HostRuntime) -> Result<(), Fail> {
-    let events = pair(&[2, 3, 4, 4], &[0, 0, 0, 1])?;
-    let Ok(bounds) = shaper_bounds(&events, &table(&[1, 2, 3, 4])?) else {
-        return Err(Fail::new("the shaper is refused"));
-    };
+    let events = Pair::new(&[2, 3, 4, 4], &[0, 0, 0, 1])?;
+    let bounds = shaper_bounds(&events, &Table::new(&[1, 2, 3, 4])?)?;
     assert_eq!(rt; bounds.wait, 1);
     assert_eq!(rt; bounds.delay, 1);
     assert_eq!(rt; bounds.passed.most.entries(), [1, 2, 3, 4].as_slice());
     assert_eq!(rt; bounds.passed.least.entries(), [0, 0, 0, 1].as_slice());
     assert_eq!(rt;
-        number(shaper_bounds(&events, &table(&[1, 1, 3])?)),
+        number(shaper_bounds(&events, &Table::new(&[1, 1, 3])?)),
         Some(4)
     );
     assert_eq!(rt;
-        number(shaper_bounds(&events, &table(&[1, 1, 1, 3])?)),
+        number(shaper_bounds(&events, &Table::new(&[1, 1, 1, 3])?)),
         Some(6)
     );
     assert_eq!(rt;
-        number(shaper_bounds(&events, &table(&[1, 1, 1, 2])?)),
+        number(shaper_bounds(&events, &Table::new(&[1, 1, 1, 2])?)),
         Some(6)
     );
     assert_eq!(rt;
-        number(shaper_bounds(&events, &table(&[1, 1, 2, 2])?)),
+        number(shaper_bounds(&events, &Table::new(&[1, 1, 2, 2])?)),
         Some(7)
     );
     Ok(())
@@ -136,14 +109,15 @@ fn shaper(rt: HostRuntime) -> Result<(), Fail> {
 
 #[test]
 fn join(rt: HostRuntime) -> Result<(), Fail> {
-    let first = pair(&[1, 600_000], &[0, 1])?;
-    let Ok(sum) = joined(&first, &pair(&[2, 400_000], &[1, 1])?) else {
-        return Err(Fail::new("the join is refused"));
-    };
+    let first = Pair::new(&[1, 600_000], &[0, 1])?;
+    let sum = joined(&first, &Pair::new(&[2, 400_000], &[1, 1])?)?;
     assert_eq!(rt; sum.most.entries(), [3, 1_000_000].as_slice());
     assert_eq!(rt; sum.least.entries(), [1, 2].as_slice());
-    let crowd = pair(&[2, 400_001], &[1, 1])?;
+    let crowd = Pair::new(&[2, 400_001], &[1, 1])?;
     assert_eq!(rt; number(joined(&first, &crowd)), Some(8));
-    assert_eq!(rt; number(joined(&first, &pair(&[1_000_000], &[0])?)), Some(4));
+    assert_eq!(rt;
+        number(joined(&first, &Pair::new(&[1_000_000], &[0])?)),
+        Some(4)
+    );
     Ok(())
 }

@@ -1,11 +1,12 @@
-use Rattle.std.proofs.Common.{◌≡◌, ◌+◌, ◌-◌, ◌*◌, ◌/◌, length, drop}
+use Rattle.std.proofs.Common.{◌≡◌, ◌+◌, [], drop}
 use Rattle.tables.specs.Tables.{curves}
-use Rattle.book.specs.Books.{chained, chain_on, started}
+use Rattle.book.specs.Books.{chained}
+use Rattle.book.proofs.Chaining.{chain_over}
 use Rattle.book.proofs.analysis.makes.chain_of.Given as goal
 
--- what is left of the book, after what is done, is the whole of it
+-- what is left of the blocks, after what is done, is the whole of them
 abbrev pub invariant-loop-n : goal.invariant-loop-n
 invariant-loop-n l =
-    (l.analysis.count + 1 ≡ l.n)
-    × (started l.book (curves l.initial.pair)
-    ≡ chain_on (chained l.analysis).first (chained l.analysis).stages (curves l.pair) l.n (length l.book / 512 - l.n) (drop (512 * l.n) l.book))
+    (l.analysis.count ≡ l.n-counter)
+    × (chain_over (curves l.initial.pair) [] (curves l.initial.pair) 1 l.blocks
+    ≡ chain_over (chained l.analysis).first (chained l.analysis).stages (curves l.pair) (l.n-counter + 1) (drop l.n-counter l.blocks))

@@ -3,10 +3,10 @@ use Rattle.std.proofs.lemmas.Bool.Decides.{nat_tests}
 use Rattle.book.specs.Books.{whole}
 use Rattle.book.proofs.analysis.makes.is_whole.Goals as goal
 
-pub returns-then-blocks-ge1 : goal.returns-then-blocks-ge1
+pub returns-then-is_empty : goal.returns-then-is_empty
 unfolding whole
-returns-then-blocks-ge1 c = grind (arith, nat_tests)
+returns-then-is_empty c = grind (arith, nat_tests)
 
-pub returns-else-blocks-ge1 : goal.returns-else-blocks-ge1
+pub returns-else-is_empty : goal.returns-else-is_empty
 unfolding whole
-returns-else-blocks-ge1 c = grind (arith, nat_tests)
+returns-else-is_empty c = grind (arith, nat_tests)
