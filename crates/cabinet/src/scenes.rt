@@ -57,8 +57,9 @@ pub(crate) fn first_of(list: &[u32], count: usize) -> &[u32]
 
 // Messages, each with the tick in which it reached the bus.
 fn dated(heap: Global, messages: &[Message], since: &[usize]) -> Result<Vec<Sent>, AllocError>
+    requires { length messages.now ≤ 352 }
     ensures value { IfOk result (λ v. v.items ≡ map (λ p. record { message = p.0; since = p.1 }) (zip messages.now since.now)) }
-    ensures few { IfOk result (λ v. length v.items ≤ length messages.now) }
+    ensures few { IfOk result (λ v. length v.items ≤ 352) }
 {
     messages
         .iter()
