@@ -1,0 +1,55 @@
+// The largest and the smallest of a range of values, and tests over a range of numbers. Both ends of a
+// range belong to it. A chain over a range says too little of its items to prove these, so each is a loop.
+ghost use Rattle.std.specs.Prelude.{◌≡◌, ℕ, ◌≤◌, Bool, IfSome};
+ghost use Rattle.tables.specs.Ranges.{largest, smallest, first, every};
+
+// The largest value, from 0 to last.
+pub fn largest<F: Fn(usize) -> u32>(last: usize, value: F) -> u32
+    requires { (k : ℕ) → k ≤ last → F.pre value k }
+    ensures { (f : ℕ → ℕ) → ((k r : ℕ) → k ≤ last → F.post value k r → r ≡ f k) → result ≡ largest last f }
+{
+    let mut best = value(0);
+    for k in 1..=last {
+        best = best.max(value(k));
+    }
+    best
+}
+
+// The smallest value, from 0 to last.
+pub fn smallest<F: Fn(usize) -> u32>(last: usize, value: F) -> u32
+    requires { (k : ℕ) → k ≤ last → F.pre value k }
+    ensures { (f : ℕ → ℕ) → ((k r : ℕ) → k ≤ last → F.post value k r → r ≡ f k) → result ≡ smallest last f }
+{
+    let mut best = value(0);
+    for k in 1..=last {
+        best = best.min(value(k));
+    }
+    best
+}
+
+// The first number that passes, from start to last.
+pub fn first<F: Fn(usize) -> bool>(start: usize, last: usize, passes: F) -> Option<usize>
+    requires { (k : ℕ) → k ≤ last → F.pre passes k }
+    ensures value { (p : ℕ → Bool) → ((k : ℕ) (r : Bool) → k ≤ last → F.post passes k r → r ≡ p k) → result ≡ first start last p }
+    ensures within { IfSome result (λ k. (start ≤ k) × (k ≤ last)) }
+{
+    for k in start..=last {
+        if passes(k) {
+            return Some(k);
+        }
+    }
+    None
+}
+
+// Whether each number passes, from start to last.
+pub fn every<F: Fn(usize) -> bool>(start: usize, last: usize, passes: F) -> bool
+    requires { (k : ℕ) → k ≤ last → F.pre passes k }
+    ensures { (p : ℕ → Bool) → ((k : ℕ) (r : Bool) → k ≤ last → F.post passes k r → r ≡ p k) → result ≡ every start last p }
+{
+    for k in start..=last {
+        if !passes(k) {
+            return false;
+        }
+    }
+    true
+}
