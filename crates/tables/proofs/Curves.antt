@@ -99,6 +99,12 @@ pub deconvolved_same : (m : ℕ) (f f' g : ℕ → ℕ) (k : ℕ) → ((j : ℕ)
 unfolding deconvolved
 deconvolved_same m f f' g k h = largest_same m (λ i. f (k + i) - g i) (λ i. f' (k + i) - g i) (λ i l. omega (arith, h (k + i) (omega arith)))
 
+pub zero_graph : {n : ℕ} → 1 ≤ n → n ≤ longest → Graph n (λ _. 0)
+zero_graph some few = record { some = some; few = few; starts = refl; rises = λ k _. omega arith; limited = omega arith }
+
+pub graph_at : {m n : ℕ} {f : ℕ → ℕ} → m ≡ n → Graph n f → Graph m f
+graph_at {m} {n} {f} e h = rw e h
+
 pub graph_same : {n : ℕ} {f g : ℕ → ℕ} → ((k : ℕ) → k ≤ n → f k ≡ g k) → Graph n g → Graph n f
 graph_same {n} {f} {g} same h = record {
   some = h.some;

@@ -20,6 +20,9 @@ filled_more {size} {n} {f} {xs} {v} old room is = record {
       (rw get_or-set_same is);
 }
 
+pub filled_none : {size : ℕ} {f : ℕ → ℕ} {xs : List ℕ} → length xs ≡ size → Filled size 0 f xs
+filled_none long = record { long = long; each = λ j h. absurd (omega arith) }
+
 pub filled_one : {size : ℕ} {f : ℕ → ℕ} {xs : List ℕ} → f 0 ≡ 0 → length xs ≡ size → get_or xs 0 0 ≡ 0 → Filled size 1 f xs
 filled_one {size} {f} {xs} starts long zero-first = record {
   long = long;

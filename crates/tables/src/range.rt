@@ -1,12 +1,12 @@
 // The largest and the smallest of a range of values, and tests over a range of numbers. Both ends of a
 // range belong to it. A chain over a range says too little of its items to prove these, so each is a loop.
 ghost use Rattle.std.specs.Prelude.{◌≡◌, ℕ, ◌≤◌, Bool, IfSome};
-ghost use Rattle.tables.specs.Ranges.{largest, smallest, first, every};
+ghost use Rattle.tables.specs.Ranges.{Gives, largest, smallest, first, every};
 
 // The largest value, from 0 to last.
 pub fn largest<F: Fn(usize) -> u32>(last: usize, value: F) -> u32
     requires { (k : ℕ) → k ≤ last → F.pre value k }
-    ensures { (f : ℕ → ℕ) → ((k r : ℕ) → k ≤ last → F.post value k r → r ≡ f k) → result ≡ largest last f }
+    ensures { (f : ℕ → ℕ) → Gives (F.post value) last f → result ≡ largest last f }
 {
     let mut best = value(0);
     for k in 1..=last {
@@ -18,7 +18,7 @@ pub fn largest<F: Fn(usize) -> u32>(last: usize, value: F) -> u32
 // The smallest value, from 0 to last.
 pub fn smallest<F: Fn(usize) -> u32>(last: usize, value: F) -> u32
     requires { (k : ℕ) → k ≤ last → F.pre value k }
-    ensures { (f : ℕ → ℕ) → ((k r : ℕ) → k ≤ last → F.post value k r → r ≡ f k) → result ≡ smallest last f }
+    ensures { (f : ℕ → ℕ) → Gives (F.post value) last f → result ≡ smallest last f }
 {
     let mut best = value(0);
     for k in 1..=last {
@@ -29,8 +29,8 @@ pub fn smallest<F: Fn(usize) -> u32>(last: usize, value: F) -> u32
 
 // The first number that passes, from start to last.
 pub fn first<F: Fn(usize) -> bool>(start: usize, last: usize, passes: F) -> Option<usize>
-    requires { (k : ℕ) → k ≤ last → F.pre passes k }
-    ensures value { (p : ℕ → Bool) → ((k : ℕ) (r : Bool) → k ≤ last → F.post passes k r → r ≡ p k) → result ≡ first start last p }
+    requires { (k : ℕ) → start ≤ k → k ≤ last → F.pre passes k }
+    ensures value { (p : ℕ → Bool) → Gives (F.post passes) last p → result ≡ first start last p }
     ensures within { IfSome result (λ k. (start ≤ k) × (k ≤ last)) }
 {
     for k in start..=last {
@@ -43,8 +43,8 @@ pub fn first<F: Fn(usize) -> bool>(start: usize, last: usize, passes: F) -> Opti
 
 // Whether each number passes, from start to last.
 pub fn every<F: Fn(usize) -> bool>(start: usize, last: usize, passes: F) -> bool
-    requires { (k : ℕ) → k ≤ last → F.pre passes k }
-    ensures { (p : ℕ → Bool) → ((k : ℕ) (r : Bool) → k ≤ last → F.post passes k r → r ≡ p k) → result ≡ every start last p }
+    requires { (k : ℕ) → start ≤ k → k ≤ last → F.pre passes k }
+    ensures { (p : ℕ → Bool) → Gives (F.post passes) last p → result ≡ every start last p }
 {
     for k in start..=last {
         if !passes(k) {

@@ -11,38 +11,21 @@ use crate::bounds::ServerBounds;
 use crate::combine::{convolved_table, excess_table};
 use crate::pair::Pair;
 use crate::sweeps::{convolved_all, deconvolved_at, delay_of, excess_at, settling_of};
-use crate::table::{Fill, Table};
+use crate::table::Table;
 
 // The most that is passed, from the convolution of the two most tables, which is worked out once.
-#[derive(Drop)]
-struct PassedMost<'a> {
-    service: &'a Pair,
-    carried: [u32; 128],
-    last: usize,
-    ghost few: { last < longest },
-}
-
-impl Fill for PassedMost<'_> {
-    ghost fills = { λ s k. min (at s.service.now.most k) (deconvolved s.last (λ n. slice_index s.carried n) (at s.service.now.least) k) };
-
-    fn count(&self, length: usize) -> u32 {
-        let most = self.service.most.near(length);
-        most.min(deconvolved_at(&self.carried, &self.service.least, self.last, length))
-    }
-}
-
 fn passed_most(events: &Pair, service: &Pair, settling: usize) -> Table
     requires same { events.now.most.frame ≡ service.now.most.frame }
     requires some { 1 ≤ settling }
     requires few { settling ≤ events.now.most.frame }
     ensures { Shows result events.now.most.frame (most_passed settling (at events.now.most) (at service.now.most) (at service.now.least)) }
 {
-    let fill = PassedMost {
-        service,
-        carried: convolved_all(&events.most, &service.most),
-        last: settling - 1,
-    };
-    Table::of(events.most.frame(), &fill)
+    let carried = convolved_all(&events.most, &service.most);
+    let last = settling - 1;
+    Table::of(events.most.frame(), |length| {
+        let most = service.most.near(length);
+        most.min(deconvolved_at(&carried, &service.least, last, length))
+    })
 }
 
 fn passed(events: &Pair, service: &Pair, settling: usize) -> Pair

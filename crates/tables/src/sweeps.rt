@@ -6,6 +6,7 @@ ghost use Rattle.tables.specs.Tables.{at};
 
 use crate::range::{every, first, largest, smallest};
 use crate::table::Table;
+use std::array;
 
 // The smallest a(u) + b(k - u), u from 0 to k.
 #[tactic(auto, unfolding(crate::specs::Curves::convolved))]
@@ -20,11 +21,7 @@ pub fn convolved_at(a: &Table, b: &Table, k: usize) -> u32
 pub(crate) fn convolved_all(a: &Table, b: &Table) -> [u32; 128]
     ensures { (k : ℕ) → k < 128 → slice_index result k ≡ convolved (at a.now) (at b.now) k }
 {
-    let mut all = [0; 128];
-    for k in 0..128 {
-        all[k] = convolved_at(a, b, k);
-    }
-    all
+    array::from_fn(|k| convolved_at(a, b, k))
 }
 
 // The largest f(k + i) - b(i), i from 0 to last, of the counts f that are written out.

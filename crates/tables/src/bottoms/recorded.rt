@@ -2,6 +2,7 @@ ghost use Rattle.std.specs.Prelude.{◌≡◌, ◌≤◌, true, false, length};
 ghost use Rattle.tables.specs.Bottoms.{kept_from, kept_by, Kept, Broken};
 ghost use Rattle.tables.specs.Tables.{at};
 
+use crate::range::every;
 use crate::table::Table;
 
 // Whether each window from start on, of 1 to a frame of counts, keeps the most table.
@@ -26,10 +27,5 @@ pub fn keeps_most(list: &[u32], most: &Table) -> bool
     ensures kept { result ≡ true → Kept (at most.now) list.now }
     ensures broken { result ≡ false → Broken (at most.now) list.now }
 {
-    for start in 0..list.len() {
-        if !keeps_from(list, most, start) {
-            return false;
-        }
-    }
-    true
+    every(0, list.len(), |start| keeps_from(list, most, start))
 }

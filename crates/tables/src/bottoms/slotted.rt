@@ -8,7 +8,7 @@ ghost use Rattle.tables.specs.Tables.{curves, Shows};
 use crate::Refusal;
 use crate::combine::{growth_table, rise_table};
 use crate::pair::Pair;
-use crate::table::{Fill, Table};
+use crate::table::Table;
 
 // The sum of all the counts.
 fn whole(counts: &[u32]) -> u64
@@ -35,20 +35,6 @@ fn running_sums(counts: &[u32]) -> [u32; 65]
     sums
 }
 
-// Sums that are written out.
-#[derive(Drop)]
-struct Running {
-    sums: [u32; 65],
-}
-
-impl Fill for Running {
-    ghost fills = { λ s k. slice_index s.sums k };
-
-    fn count(&self, length: usize) -> u32 {
-        self.sums[length]
-    }
-}
-
 // The running sums around the circle, laid out over two rounds as every table is.
 fn circle(counts: &[u32]) -> Table
     requires some { 1 ≤ count_of counts.now }
@@ -57,7 +43,7 @@ fn circle(counts: &[u32]) -> Table
     ensures { Shows result (count_of counts.now) (sum (recorded counts.now)) }
 {
     let sums = running_sums(counts);
-    Table::of(counts.len(), &Running { sums })
+    Table::of(counts.len(), |length| sums[length])
 }
 
 // The largest and the smallest sum of k neighbours on the circle, for each k.

@@ -1,4 +1,4 @@
-ghost use Rattle.std.specs.Prelude.{◌≡◌, ◌≤◌};
+ghost use Rattle.std.specs.Prelude.{◌≡◌, ◌≤◌, length as count_of};
 ghost use Rattle.tables.specs.Curves.{given, nowhere_above};
 ghost use Rattle.tables.specs.Limits.{longest};
 ghost use Rattle.tables.specs.Makes.{answer, pair_answer};
@@ -6,21 +6,17 @@ ghost use Rattle.tables.specs.Tables.{curves};
 
 use super::Pair;
 use crate::Refusal;
-use crate::table::{Fill, Given, Table, is_lawful};
+use crate::range::every;
+use crate::table::{Table, count_at, is_lawful};
 
 // Whether the least is nowhere above the most, at the lengths of the frame.
+#[tactic(auto, unfolding(crate::specs::Curves::nowhere_above))]
 fn is_under(frame: usize, most: &[u32], least: &[u32]) -> bool
-    requires { frame ≤ longest }
+    requires high { frame ≤ count_of most.now }
+    requires low { frame ≤ count_of least.now }
     ensures { result ≡ nowhere_above frame (given most.now) (given least.now) }
 {
-    let high = Given { counts: most };
-    let low = Given { counts: least };
-    for k in 1..frame + 1 {
-        if low.count(k) > high.count(k) {
-            return false;
-        }
-    }
-    true
+    every(1, frame, |k| count_at(least, k) <= count_at(most, k))
 }
 
 impl Pair {
@@ -36,8 +32,8 @@ impl Pair {
             return Err(Refusal::Table);
         }
         Ok(Pair {
-            most: Table::of(frame, &Given { counts: most }),
-            least: Table::of(frame, &Given { counts: least }),
+            most: Table::of(frame, |length| count_at(most, length)),
+            least: Table::of(frame, |length| count_at(least, length)),
         })
     }
 }

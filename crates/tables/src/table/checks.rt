@@ -1,45 +1,31 @@
-ghost use Rattle.std.specs.Prelude.{◌≡◌, ◌≤◌, length};
+ghost use Rattle.std.specs.Prelude.{◌≡◌, ◌≤◌, length as count_of};
 ghost use Rattle.tables.specs.Curves.{given, lawful};
 ghost use Rattle.tables.specs.Limits.{longest};
 ghost use Rattle.tables.specs.Makes.{answer, table_answer};
 ghost use Rattle.tables.specs.Tables.{curve};
 
-use super::{Fill, Table};
+use super::Table;
 use crate::Refusal;
+use crate::range::every;
 
-// The counts of a table from length 1 on.
-#[derive(Drop)]
-pub struct Given<'a> {
-    pub counts: &'a [u32],
-}
-
-impl Fill for Given<'_> {
-    ghost fills = { λ g. given g.counts.now };
-
-    fn count(&self, length: usize) -> u32 {
-        if length == 0 {
-            0
-        } else if length <= self.counts.len() {
-            self.counts[length - 1]
-        } else {
-            0
-        }
-    }
+// The count at a length, of the counts from length 1 on.
+pub fn count_at(counts: &[u32], length: usize) -> u32
+    requires { length ≤ count_of counts.now }
+    ensures { result ≡ given counts.now length }
+{
+    if length == 0 { 0 } else { counts[length - 1] }
 }
 
 // Whether no count of the frame is smaller than the one before it or above the limit.
+#[tactic(auto, unfolding(crate::specs::Curves::lawful))]
 pub fn is_lawful(frame: usize, counts: &[u32]) -> bool
-    requires { frame ≤ longest }
+    requires { frame ≤ count_of counts.now }
     ensures { result ≡ lawful frame (given counts.now) }
 {
-    let given = Given { counts };
-    for k in 1..frame + 1 {
-        let count = given.count(k);
-        if given.count(k - 1) > count || count > 1_000_000 {
-            return false;
-        }
-    }
-    true
+    every(1, frame, |k| {
+        let count = count_at(counts, k);
+        count_at(counts, k - 1) <= count && count <= 1_000_000
+    })
 }
 
 impl Table {
@@ -54,6 +40,6 @@ impl Table {
         if !is_lawful(frame, counts) {
             return Err(Refusal::Table);
         }
-        Ok(Table::of(frame, &Given { counts }))
+        Ok(Table::of(frame, |length| count_at(counts, length)))
     }
 }

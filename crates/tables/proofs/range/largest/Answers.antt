@@ -1,4 +1,4 @@
-use Rattle.std.proofs.Common.{◌≡◌, ℕ, ◌+◌, ◌-◌, min, sym, ap, ◌∙◌, arith}
+use Rattle.std.proofs.Common.{◌≡◌, ◌+◌, ◌-◌, min, sym, ap, ◌∙◌, arith}
 use Rattle.tables.specs.Ranges.{largest}
 use Rattle.tables.proofs.Ranges.{largest_none, largest_step}
 use Rattle.tables.proofs.range.largest.Goals as goal

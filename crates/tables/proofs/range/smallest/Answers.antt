@@ -1,4 +1,4 @@
-use Rattle.std.proofs.Common.{◌≡◌, ℕ, ◌+◌, ◌-◌, min, sym, ap, ◌∙◌, arith}
+use Rattle.std.proofs.Common.{◌≡◌, ◌+◌, ◌-◌, min, sym, ap, ◌∙◌, arith}
 use Rattle.tables.specs.Ranges.{smallest}
 use Rattle.tables.proofs.Ranges.{smallest_none, smallest_step}
 use Rattle.tables.proofs.range.smallest.Goals as goal
