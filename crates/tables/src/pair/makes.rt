@@ -9,14 +9,13 @@ use crate::Refusal;
 use crate::range::every;
 use crate::table::{Table, count_at, is_lawful};
 
-// Whether the least is nowhere above the most, at the lengths of the frame.
+// Whether the least is nowhere above the most.
 #[tactic(auto, unfolding(crate::specs::Curves::nowhere_above))]
-fn is_under(frame: usize, most: &[u32], least: &[u32]) -> bool
-    requires high { frame ≤ count_of most.now }
-    requires low { frame ≤ count_of least.now }
-    ensures { result ≡ nowhere_above frame (given most.now) (given least.now) }
+fn is_under(most: &[u32], least: &[u32]) -> bool
+    requires { count_of least.now ≡ count_of most.now }
+    ensures { result ≡ nowhere_above (count_of most.now) (given most.now) (given least.now) }
 {
-    every(1, frame, |k| count_at(least, k) <= count_at(most, k))
+    every(1, most.len(), |k| count_at(least, k) <= count_at(most, k))
 }
 
 impl Pair {
@@ -28,12 +27,12 @@ impl Pair {
         if frame < 1 || frame > 64 || least.len() != frame {
             return Err(Refusal::Frame);
         }
-        if !is_lawful(frame, most) || !is_lawful(frame, least) || !is_under(frame, most, least) {
+        if !is_lawful(most) || !is_lawful(least) || !is_under(most, least) {
             return Err(Refusal::Table);
         }
         Ok(Pair {
-            most: Table::of(frame, |length| count_at(most, length)),
-            least: Table::of(frame, |length| count_at(least, length)),
+            most: Table::given(most),
+            least: Table::given(least),
         })
     }
 }

@@ -1,8 +1,8 @@
 ghost use Rattle.std.specs.Prelude.{◌≡◌, ◌≤◌, length as count_of};
-ghost use Rattle.tables.specs.Curves.{given, lawful};
+ghost use Rattle.tables.specs.Curves.{Graph, given, lawful};
 ghost use Rattle.tables.specs.Limits.{longest};
 ghost use Rattle.tables.specs.Makes.{answer, table_answer};
-ghost use Rattle.tables.specs.Tables.{curve};
+ghost use Rattle.tables.specs.Tables.{Shows, curve};
 
 use super::Table;
 use crate::Refusal;
@@ -16,13 +16,12 @@ pub fn count_at(counts: &[u32], length: usize) -> u32
     if length == 0 { 0 } else { counts[length - 1] }
 }
 
-// Whether no count of the frame is smaller than the one before it or above the limit.
+// Whether no count is smaller than the one before it or above the limit.
 #[tactic(auto, unfolding(crate::specs::Curves::lawful))]
-pub fn is_lawful(frame: usize, counts: &[u32]) -> bool
-    requires { frame ≤ count_of counts.now }
-    ensures { result ≡ lawful frame (given counts.now) }
+pub fn is_lawful(counts: &[u32]) -> bool
+    ensures { result ≡ lawful (count_of counts.now) (given counts.now) }
 {
-    every(1, frame, |k| {
+    every(1, counts.len(), |k| {
         let count = count_at(counts, k);
         count_at(counts, k - 1) <= count && count <= 1_000_000
     })
@@ -37,9 +36,17 @@ impl Table {
         if frame < 1 || frame > 64 {
             return Err(Refusal::Frame);
         }
-        if !is_lawful(frame, counts) {
+        if !is_lawful(counts) {
             return Err(Refusal::Table);
         }
-        Ok(Table::of(frame, |length| count_at(counts, length)))
+        Ok(Table::given(counts))
+    }
+
+    // The same, of counts that are known to be lawful.
+    pub(crate) fn given(counts: &[u32]) -> Table
+        requires { Graph (count_of counts.now) (given counts.now) }
+        ensures { Shows result (count_of counts.now) (given counts.now) }
+    {
+        Table::of(counts.len(), |length| count_at(counts, length))
     }
 }

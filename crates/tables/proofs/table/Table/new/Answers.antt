@@ -7,8 +7,8 @@ use Rattle.tables.proofs.Curves.{lawful_graph}
 use Rattle.tables.proofs.Tables.{shows_curve}
 use Rattle.tables.proofs.table.Table.new.Goals as goal
 
-pub of-requires-clause-graph : goal.of-requires-clause-graph
-of-requires-clause-graph c = (given c.args.counts.now, search (rules, lawful_graph), λ k r h gives. search rules)
+pub given-requires : goal.given-requires
+given-requires c = search (rules, lawful_graph)
 
 pub returns : goal.returns
 returns c =
@@ -16,4 +16,4 @@ returns c =
     let n = length xs in
     let fits : framed n ≡ true = and_from _ _ (le-leb 1 n (omega arith)) (le-leb n longest (omega arith)) in
     let law : lawful n (given xs) ≡ true = search rules in
-    ap Ok (shows_curve (c.of.ensures (given xs) (λ k r h gives. search rules))) ∙ sym (cond-true _ _ _ fits ∙ cond-true _ _ _ law)
+    ap Ok (shows_curve c.given.ensures) ∙ sym (cond-true _ _ _ fits ∙ cond-true _ _ _ law)
