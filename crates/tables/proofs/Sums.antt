@@ -1,5 +1,5 @@
 -- Sums of courses.
-use Rattle.std.proofs.Common.{◌≡◌, ℕ, zero, suc, ◌+◌, ◌-◌, ◌≤◌, List, length, take, refl, ap, add-one, arith}
+use Rattle.std.proofs.Common.{◌≡◌, ℕ, zero, suc, ◌+◌, ◌≤◌, List, length, take, refl, ap, add-one, arith}
 use native.Mathlib.Decide.{le_ind}
 use Rattle.std.specs.List.{sum as list_sum}
 use Rattle.std.proofs.lemmas.List.{take_all}
@@ -26,9 +26,6 @@ sum_taken xs (suc k) h =
 pub sum_all : (xs : List ℕ) → list_sum xs ≡ sum (recorded xs) (length xs)
 sum_all xs = omega (arith, sum_taken xs (length xs) (omega arith), ap list_sum (take_all (length xs) xs (omega arith)))
 
--- a window of k counts from i on, with what was counted before the last
-pub window_more : (a : ℕ → ℕ) (i k m : ℕ) → 1 ≤ k → sum a i + m ≡ sum a (i + (k - 1)) → sum a i + (m + a (i + k - 1)) ≡ sum a (i + k)
-window_more a i k m some is =
-    let before : i + (k - 1) ≡ i + k - 1 = omega arith in
-    let whole : i + k - 1 + 1 ≡ i + k = omega arith in
-    omega (arith, ap (sum a) before, ap (sum a) whole, sum_more a (i + k - 1))
+-- a window of k counts from i on, with one more
+pub window_more : (a : ℕ → ℕ) (i k m : ℕ) → sum a i + m ≡ sum a (i + k) → sum a i + (m + a (i + k)) ≡ sum a (i + (k + 1))
+window_more a i k m is = let next : i + k + 1 ≡ i + (k + 1) = omega arith in omega (arith, sum_more a (i + k), ap (sum a) next)

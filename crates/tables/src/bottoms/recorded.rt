@@ -11,10 +11,11 @@ fn keeps_from(list: &[u32], most: &Table, start: usize) -> bool
     ensures { result ≡ kept_from most.now.frame (at most.now) list.now start }
 {
     let last = most.frame().min(list.len() - start);
-    let mut count = 0;
-    for k in 1..last + 1 {
-        count += list[start + k - 1] as u64;
-        if count > most.near(k) as u64 {
+    let window = &list[start..start + last];
+    let mut sum = 0;
+    for (before, &count) in window.iter().enumerate() {
+        sum += u64::from(count);
+        if sum > u64::from(most.near(before + 1)) {
             return false;
         }
     }

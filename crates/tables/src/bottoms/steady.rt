@@ -16,7 +16,7 @@ pub fn steady_pair(frame: usize, count: u32) -> Result<Pair, Refusal>
     if frame < 1 || frame > 64 {
         return Err(Refusal::Frame);
     }
-    if count as u64 * frame as u64 > 1_000_000 {
+    if u64::from(count) * frame as u64 > 1_000_000 {
         return Err(Refusal::Table);
     }
     let table = Table::of(frame, |length| count * length as u32);
