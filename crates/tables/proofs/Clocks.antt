@@ -15,10 +15,6 @@ line_graph n c some few low = record {
   limited = low;
 }
 
--- one tick hands over no more than the window does
-pub line_low : (n c : ℕ) → 1 ≤ n → line c n ≤ limit → c ≤ limit
-line_low n c some low = omega (arith, mul-le-mul_left c some)
-
 div_rises : (x y p : ℕ) → 1 ≤ p → x ≤ y → x / p ≤ y / p
 div_rises x y p some h = le-div (x / p) y p some (omega (arith, div-add-mod' x p))
 

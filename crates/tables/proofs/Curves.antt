@@ -162,11 +162,3 @@ module _ (n : ℕ) (f g : ℕ → ℕ) where
         enough = λ k l. leb-true (f k) (g (k + d)) (every_each (λ j. leb (f j) (g (j + d))) 0 n (first_sound p 0 n d is).2 k (omega arith) l);
         least = λ c fits. first_least p 0 n d c is (omega arith) (every_true (λ k. leb (f k) (g (k + c))) 0 n (λ k _ l. le-leb (f k) (g (k + c)) (fits k l)));
       }
-
-  pub delay_le : shortest_delay n f g ≤ n
-  unfolding shortest_delay
-  delay_le = at_most (first 0 n (covers n f g)) (λ d e. (first_sound (covers n f g) 0 n d e).1)
-    where
-      at_most : (o : Option ℕ) → ((d : ℕ) → o ≡ Some d → d ≤ n) → unwrap_or o 0 ≤ n
-      at_most None h = omega arith
-      at_most (Some d) h = h d refl

@@ -1,12 +1,8 @@
 use Rattle.std.proofs.Common.{◌≡◌, refl, arith, rules}
 use Rattle.tables.specs.Curves.{repeated}
 use Rattle.tables.specs.Tables.{at}
-use Rattle.tables.proofs.Curves.{zero_graph}
 use Rattle.tables.proofs.Tables.{shows_all, shows_to}
 use Rattle.tables.proofs.pair.Pair.capped.Goals as goal
-
-pub of-requires-clause-graph : goal.of-requires-clause-graph
-of-requires-clause-graph c = (λ _. 0, zero_graph (omega arith) (omega arith), λ k r h gives. search rules)
 
 pub invariant_of-result : goal.invariant_of-result
 invariant_of-result c =

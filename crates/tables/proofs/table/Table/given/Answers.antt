@@ -2,8 +2,5 @@ use Rattle.std.proofs.Common.{rules}
 use Rattle.tables.specs.Curves.{given as counted}
 use Rattle.tables.proofs.table.Table.given.Goals as goal
 
-pub of-requires-clause-graph : goal.of-requires-clause-graph
-of-requires-clause-graph c = (counted c.args.counts.now, c.requires, λ k r h gives. search rules)
-
 pub returns : goal.returns
 returns c = c.of.ensures (counted c.args.counts.now) (λ k r h gives. search rules)
