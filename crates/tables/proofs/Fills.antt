@@ -19,9 +19,6 @@ filled_more {size} {n} {f} {xs} {v} old room is = record {
       (rw get_or-set_same is);
 }
 
-pub filled_none : {size : ℕ} {f : ℕ → ℕ} {xs : List ℕ} → length xs ≡ size → Filled size 0 f xs
-filled_none long = record { long = long; each = λ j h. absurd (omega arith) }
-
 pub filled_front : {n size : ℕ} {f : ℕ → ℕ} {xs : List ℕ} → Graph n f → length xs ≡ size → ((k : ℕ) → k ≤ n → get_or xs k 0 ≡ f k) → Filled size (n + 1) (repeated n f) xs
 filled_front {n} {size} {f} {xs} g long is = record { long = long; each = λ k h. is k (omega arith) ∙ sym (repeated_within n f g.some g.starts k (omega arith)) }
 

@@ -5,6 +5,11 @@ use Rattle.std.specs.Prelude.{◌≡◌, ℕ, zero, suc, ◌-◌, ◌≤◌, min
 abbrev pub Gives : {X : Type 0} → (ℕ → X → Type 0) → ℕ → (ℕ → X) → Type 0
 Gives {X} post n f = (k : ℕ) (r : X) → k ≤ n → post k r → r ≡ f k
 
+-- the values f k, k from 0 to n, taken together by op from the first on
+unfoldable pub chosen : (ℕ → ℕ → ℕ) → ℕ → (ℕ → ℕ) → ℕ
+chosen op zero f = f 0
+chosen op (suc n) f = op (chosen op n f) (f (suc n))
+
 -- the largest f k, k from 0 to n
 unfoldable pub largest : ℕ → (ℕ → ℕ) → ℕ
 largest zero f = f 0

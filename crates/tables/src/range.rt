@@ -1,18 +1,27 @@
 // The largest and the smallest of a range of values, and tests over a range of numbers. Both ends of a
 // range belong to it. A chain over a range says too little of its items to prove these, so each is a loop.
 ghost use Rattle.std.specs.Prelude.{◌≡◌, ℕ, ◌≤◌, Bool, IfSome};
-ghost use Rattle.tables.specs.Ranges.{Gives, largest, smallest, first, every};
+ghost use Rattle.tables.specs.Ranges.{Gives, chosen, largest, smallest, first, every};
+
+// The values from 0 to last, two made one by a choice at a time, from the first on.
+fn chosen<F: Fn(usize) -> u32, C: Fn(u32, u32) -> u32>(last: usize, value: F, choice: C) -> u32
+    requires callable { (k : ℕ) → k ≤ last → F.pre value k }
+    requires free { C.IsAlwaysCallable choice }
+    ensures { (f : ℕ → ℕ) (op : ℕ → ℕ → ℕ) → Gives (F.post value) last f → ((x y r : ℕ) → C.post choice x y r → r ≡ op x y) → result ≡ chosen op last f }
+{
+    let mut best = value(0);
+    for k in 1..=last {
+        best = choice(best, value(k));
+    }
+    best
+}
 
 // The largest value, from 0 to last.
 pub fn largest<F: Fn(usize) -> u32>(last: usize, value: F) -> u32
     requires { (k : ℕ) → k ≤ last → F.pre value k }
     ensures { (f : ℕ → ℕ) → Gives (F.post value) last f → result ≡ largest last f }
 {
-    let mut best = value(0);
-    for k in 1..=last {
-        best = best.max(value(k));
-    }
-    best
+    chosen(last, value, u32::max)
 }
 
 // The smallest value, from 0 to last.
@@ -20,11 +29,7 @@ pub fn smallest<F: Fn(usize) -> u32>(last: usize, value: F) -> u32
     requires { (k : ℕ) → k ≤ last → F.pre value k }
     ensures { (f : ℕ → ℕ) → Gives (F.post value) last f → result ≡ smallest last f }
 {
-    let mut best = value(0);
-    for k in 1..=last {
-        best = best.min(value(k));
-    }
-    best
+    chosen(last, value, u32::min)
 }
 
 // The first number that passes, from start to last.

@@ -14,7 +14,7 @@ fn front<F: Fn(usize) -> u32>(frame: usize, fill: F) -> [u32; 129]
     ensures { (f : ℕ → ℕ) → Gives (F.post fill) frame f → (k : ℕ) → k ≤ frame → slice_index result k ≡ f k }
 {
     let mut entries = [0; 129];
-    for k in 0..frame + 1 {
+    for k in 0..=frame {
         entries[k] = fill(k);
     }
     entries
