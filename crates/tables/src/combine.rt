@@ -26,16 +26,14 @@ pub fn excess_table(of: &Table, over: &Table) -> Table
 pub fn growth_table(h: &Table) -> Table
     ensures { Shows result h.now.frame (growth (h.now.frame - 1) (at h.now)) }
 {
-    let last = h.frame() - 1;
-    Table::of(h.frame(), |length| growth_at(h, last, length))
+    Table::of(h.frame(), |length| growth_at(h, length))
 }
 
 // The largest growth of a table, at each length.
 pub fn rise_table(h: &Table) -> Table
     ensures { Shows result h.now.frame (deconvolved (h.now.frame - 1) (at h.now) (at h.now)) }
 {
-    let last = h.frame() - 1;
-    Table::of(h.frame(), |length| rise_at(h, last, length))
+    Table::of(h.frame(), |length| rise_at(h, length))
 }
 
 // The sum of two tables, where it keeps the limit.

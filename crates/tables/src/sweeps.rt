@@ -1,5 +1,5 @@
 // The largest, the smallest and the first over a range of lengths.
-ghost use Rattle.std.specs.Prelude.{◌≡◌, ℕ, ◌*◌, ◌<◌, ◌≤◌, IfSome, slice_index};
+ghost use Rattle.std.specs.Prelude.{◌≡◌, ℕ, ◌-◌, ◌*◌, ◌<◌, ◌≤◌, IfSome, slice_index};
 ghost use Rattle.tables.specs.Curves.{convolved, deconvolved, excess, growth, settling_length, covers, shortest_delay, subadditive, subadditive_at};
 ghost use Rattle.tables.specs.Limits.{longest, limit};
 ghost use Rattle.tables.specs.Tables.{at};
@@ -43,24 +43,22 @@ pub fn excess_at(a: &Table, b: &Table, k: usize) -> u32
     largest(k, |u| a.near(u).saturating_sub(b.near(u)))
 }
 
-// The smallest h(k + i) - h(i), i from 0 to last.
+// The smallest h(k + i) - h(i), i over a frame.
 #[tactic(auto, unfolding(crate::specs::Curves::growth))]
-pub fn growth_at(h: &Table, last: usize, k: usize) -> u32
-    requires few { last < longest }
-    requires short { k ≤ longest }
-    ensures { result ≡ growth last (at h.now) k }
+pub fn growth_at(h: &Table, k: usize) -> u32
+    requires { k ≤ longest }
+    ensures { result ≡ growth (h.now.frame - 1) (at h.now) k }
 {
-    smallest(last, |i| h.near(k + i).saturating_sub(h.near(i)))
+    smallest(h.frame() - 1, |i| h.near(k + i).saturating_sub(h.near(i)))
 }
 
-// The largest h(k + i) - h(i), i from 0 to last.
+// The largest h(k + i) - h(i), i over a frame.
 #[tactic(auto, unfolding(crate::specs::Curves::deconvolved))]
-pub fn rise_at(h: &Table, last: usize, k: usize) -> u32
-    requires few { last < longest }
-    requires short { k ≤ longest }
-    ensures { result ≡ deconvolved last (at h.now) (at h.now) k }
+pub fn rise_at(h: &Table, k: usize) -> u32
+    requires { k ≤ longest }
+    ensures { result ≡ deconvolved (h.now.frame - 1) (at h.now) (at h.now) k }
 {
-    largest(last, |i| h.near(k + i).saturating_sub(h.near(i)))
+    largest(h.frame() - 1, |i| h.near(k + i).saturating_sub(h.near(i)))
 }
 
 // The smallest length of the frame at which a is at most b.
