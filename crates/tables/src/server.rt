@@ -67,9 +67,7 @@ pub fn server_bounds(events: &Pair, service: &Pair) -> Result<ServerBounds, Refu
     if events.most.frame() != service.most.frame() {
         return Err(Refusal::Frame);
     }
-    let Some(settling) = settling_of(&events.most, &service.least) else {
-        return Err(Refusal::Overload);
-    };
+    let settling = settling_of(&events.most, &service.least).ok_or(Refusal::Overload)?;
     let settled = Settled {
         events,
         service,

@@ -28,6 +28,7 @@ impl Table {
         ensures { (f : ℕ → ℕ) → Gives (F.post fill) frame f → Shows result frame f }
     {
         let mut entries = front(frame, fill);
+        // Each entry past the frame is made of two before it.
         for k in frame + 1..129 {
             entries[k] = entries[k - frame] + entries[frame];
         }
