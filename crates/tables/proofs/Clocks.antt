@@ -1,6 +1,7 @@
 -- What the curves of a steady flow and of a clock keep.
-use Rattle.std.proofs.Common.{◌≡◌, ℕ, zero, suc, ◌+◌, ◌-◌, ◌/◌, ◌≤◌, refl, mul-le-mul_left, mul-zero, div-add-mod', div-le_self, add-one, arith}
-use Rattle.std.proofs.lemmas.Nat.{le-div}
+use Rattle.std.proofs.Common.{◌≡◌, ℕ, zero, suc, ◌+◌, ◌-◌, ◌*◌, ◌/◌, ◌%◌, ◌<◌, ◌≤◌, min, sym, refl, ap, ⊎_elim, mod-lt, add-mul, one-mul, mul-le-mul_left, mul-zero, div-add-mod', div-le_self, add-one, arith}
+use Rattle.std.proofs.lemmas.Nat.{le-div, div-mul-add}
+use Rattle.std.proofs.lemmas.Bool.{cases_lt}
 use Rattle.tables.specs.Bottoms.{line, up, clocked_most, clocked_least}
 use Rattle.tables.specs.Curves.{Graph}
 use Rattle.tables.specs.Limits.{longest, limit, longest_period, longest_jitter}
@@ -14,10 +15,6 @@ line_graph n c some few low = record {
   limited = low;
 }
 
--- one tick hands over no more than the window does
-pub line_low : (n c : ℕ) → 1 ≤ n → line c n ≤ limit → c ≤ limit
-line_low n c some low = omega (arith, mul-le-mul_left c some)
-
 div_rises : (x y p : ℕ) → 1 ≤ p → x ≤ y → x / p ≤ y / p
 div_rises x y p some h = le-div (x / p) y p some (omega (arith, div-add-mod' x p))
 
@@ -29,6 +26,22 @@ pub clocked_some : (p j k : ℕ) → 1 ≤ k → up p (k + j) ≡ clocked_most p
 unfolding clocked_most
 clocked_some p j zero h = absurd (omega arith)
 clocked_some p j (suc k) h = refl
+
+-- a quotient that is rounded up
+pub ceil_up : (p x : ℕ) → 1 ≤ p → x / p + min 1 (x % p) ≡ up p x
+ceil_up p x some =
+    let q = x / p in
+    let r = x % p in
+    let below : r < p = mod-lt x some in
+    let here : x ≡ q * p + r = sym (div-add-mod' x p) in
+    ⊎_elim
+    (λ (none : r < 1).
+    let top : x + (p - 1) ≡ q * p + (p - 1) = omega arith in
+    omega (arith, ap (λ n. n / p) top, div-mul-add q p (p - 1) (omega arith)))
+    (λ (more : 1 ≤ r).
+    let top : x + (p - 1) ≡ (q + 1) * p + (r - 1) = omega (arith, add-mul q 1 p, one-mul p) in
+    omega (arith, ap (λ n. n / p) top, div-mul-add (q + 1) p (r - 1) (omega arith)))
+    (cases_lt r 1)
 
 module _ (n p j : ℕ) (some : 1 ≤ n) (few : n ≤ longest) (ticks : 1 ≤ p) where
   pub clocked_graph : p ≤ longest_period → j ≤ longest_jitter → Graph n (clocked_most p j)

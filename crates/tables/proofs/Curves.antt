@@ -99,6 +99,12 @@ pub deconvolved_same : (m : ℕ) (f f' g : ℕ → ℕ) (k : ℕ) → ((j : ℕ)
 unfolding deconvolved
 deconvolved_same m f f' g k h = largest_same m (λ i. f (k + i) - g i) (λ i. f' (k + i) - g i) (λ i l. omega (arith, h (k + i) (omega arith)))
 
+pub zero_graph : {n : ℕ} → 1 ≤ n → n ≤ longest → Graph n (λ _. 0)
+zero_graph some few = record { some = some; few = few; starts = refl; rises = λ k _. omega arith; limited = omega arith }
+
+pub graph_at : {m n : ℕ} {f : ℕ → ℕ} → m ≡ n → Graph n f → Graph m f
+graph_at {m} {n} {f} e h = rw e h
+
 pub graph_same : {n : ℕ} {f g : ℕ → ℕ} → ((k : ℕ) → k ≤ n → f k ≡ g k) → Graph n g → Graph n f
 graph_same {n} {f} {g} same h = record {
   some = h.some;
@@ -156,11 +162,3 @@ module _ (n : ℕ) (f g : ℕ → ℕ) where
         enough = λ k l. leb-true (f k) (g (k + d)) (every_each (λ j. leb (f j) (g (j + d))) 0 n (first_sound p 0 n d is).2 k (omega arith) l);
         least = λ c fits. first_least p 0 n d c is (omega arith) (every_true (λ k. leb (f k) (g (k + c))) 0 n (λ k _ l. le-leb (f k) (g (k + c)) (fits k l)));
       }
-
-  pub delay_le : shortest_delay n f g ≤ n
-  unfolding shortest_delay
-  delay_le = at_most (first 0 n (covers n f g)) (λ d e. (first_sound (covers n f g) 0 n d e).1)
-    where
-      at_most : (o : Option ℕ) → ((d : ℕ) → o ≡ Some d → d ≤ n) → unwrap_or o 0 ≤ n
-      at_most None h = omega arith
-      at_most (Some d) h = h d refl

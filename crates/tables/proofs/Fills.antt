@@ -1,7 +1,6 @@
 -- Loops that write f k at each place k of an array.
-use Rattle.std.proofs.Common.{◌≡◌, ℕ, zero, suc, ◌+◌, ◌-◌, ◌<◌, ◌≤◌, ◌≢◌, List, length, get_or, set, sym, ap, ◌∙◌, arith, length-set, get_or-set_other, get_or-set_same, below_more}
-use Rattle.std.proofs.lemmas.List.{get_or_past}
-use Rattle.tables.specs.Curves.{Graph, given, repeated}
+use Rattle.std.proofs.Common.{◌≡◌, ℕ, ◌+◌, ◌<◌, ◌≤◌, ◌≢◌, List, length, get_or, set, sym, ◌∙◌, arith, length-set, get_or-set_other, get_or-set_same, below_more}
+use Rattle.tables.specs.Curves.{Graph, repeated}
 use Rattle.tables.specs.Limits.{longest, limit}
 use Rattle.tables.proofs.Tables.{repeated_later, repeated_within}
 
@@ -19,23 +18,6 @@ filled_more {size} {n} {f} {xs} {v} old room is = record {
       (λ j h. let ne : j ≢ n = omega arith in rw get_or-set_other (old.each j h))
       (rw get_or-set_same is);
 }
-
-pub filled_one : {size : ℕ} {f : ℕ → ℕ} {xs : List ℕ} → f 0 ≡ 0 → length xs ≡ size → get_or xs 0 0 ≡ 0 → Filled size 1 f xs
-filled_one {size} {f} {xs} starts long zero-first = record {
-  long = long;
-  each = λ j h. let e : j ≡ 0 = omega arith in rw e (zero-first ∙ sym starts);
-}
-
-pub given_none : (xs : List ℕ) (k : ℕ) → k ≡ 0 → given xs k ≡ 0
-given_none xs k e = ap (given xs) e
-
-pub given_past : (xs : List ℕ) (k : ℕ) → length xs < k → given xs k ≡ 0
-given_past xs zero h = absurd (omega arith)
-given_past xs (suc k) h = get_or_past xs k 0 (omega arith)
-
-pub given_at : (xs : List ℕ) (k : ℕ) → 1 ≤ k → given xs k ≡ get_or xs (k - 1) 0
-given_at xs zero h = absurd (omega arith)
-given_at xs (suc k) h = let e : suc k - 1 ≡ k = omega arith in ap (λ j. get_or xs j 0) (sym e)
 
 pub filled_front : {n size : ℕ} {f : ℕ → ℕ} {xs : List ℕ} → Graph n f → length xs ≡ size → ((k : ℕ) → k ≤ n → get_or xs k 0 ≡ f k) → Filled size (n + 1) (repeated n f) xs
 filled_front {n} {size} {f} {xs} g long is = record { long = long; each = λ k h. is k (omega arith) ∙ sym (repeated_within n f g.some g.starts k (omega arith)) }

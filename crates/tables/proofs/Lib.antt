@@ -8,3 +8,4 @@ pub mod Frames
 pub mod Clocks
 pub mod Circles
 pub mod Windows
+pub mod Made

@@ -1,26 +1,36 @@
 -- The steps of the loops over a range, and what follows of their results.
 use Rattle.std.proofs.Common.{◌≡◌, ℕ, zero, suc, ◌+◌, ◌-◌, ◌<◌, ◌≤◌, min, max, Bool, true, false, is_some, Some, None, sym, refl, ap, ◌∙◌, ⊎_elim, le_of_suc-le-suc, eq-or-lt_of_le, add-one, arith}
 use Rattle.std.proofs.lemmas.Bool.{cond_both, both_ways, cases_Bool, and_from, and_parts, and_cases}
-use Rattle.tables.specs.Ranges.{largest, smallest, seek, first, all, every}
-
-pub largest_none : (f : ℕ → ℕ) → largest 0 f ≡ f 0
-unfolding largest
-largest_none f = refl
+use Rattle.tables.specs.Ranges.{chosen, largest, smallest, seek, first, all, every}
 
 pub smallest_none : (f : ℕ → ℕ) → smallest 0 f ≡ f 0
 unfolding smallest
 smallest_none f = refl
 
 -- a loop `for k in 1..n + 1`, at the end of its turn k
-pub largest_step : (k : ℕ) (f : ℕ → ℕ) → 1 ≤ k → largest (k + 1 - 1) f ≡ max (largest (k - 1) f) (f k)
-unfolding largest
-largest_step zero f h = absurd (omega arith)
-largest_step (suc k) f h = let e : suc k + 1 - 1 ≡ suc k = omega arith in let e2 : suc k - 1 ≡ k = omega arith in rw (e, e2)
-
 pub smallest_step : (k : ℕ) (f : ℕ → ℕ) → 1 ≤ k → smallest (k + 1 - 1) f ≡ min (smallest (k - 1) f) (f k)
 unfolding smallest
 smallest_step zero f h = absurd (omega arith)
 smallest_step (suc k) f h = let e : suc k + 1 - 1 ≡ suc k = omega arith in let e2 : suc k - 1 ≡ k = omega arith in rw (e, e2)
+
+pub chosen_none : (op : ℕ → ℕ → ℕ) (f : ℕ → ℕ) → chosen op 0 f ≡ f 0
+unfolding chosen
+chosen_none op f = refl
+
+pub chosen_step : (op : ℕ → ℕ → ℕ) (k : ℕ) (f : ℕ → ℕ) → 1 ≤ k → chosen op k f ≡ op (chosen op (k - 1) f) (f k)
+unfolding chosen
+chosen_step op zero f h = absurd (omega arith)
+chosen_step op (suc k) f h = let e : suc k - 1 ≡ k = omega arith in rw e
+
+pub chosen_largest : (n : ℕ) (f : ℕ → ℕ) → chosen max n f ≡ largest n f
+unfolding chosen largest
+chosen_largest zero f = refl
+chosen_largest (suc n) f = ap (λ m. max m (f (suc n))) (chosen_largest n f)
+
+pub chosen_smallest : (n : ℕ) (f : ℕ → ℕ) → chosen min n f ≡ smallest n f
+unfolding chosen smallest
+chosen_smallest zero f = refl
+chosen_smallest (suc n) f = ap (λ m. min m (f (suc n))) (chosen_smallest n f)
 
 pub largest_ge : (n : ℕ) (f : ℕ → ℕ) (k : ℕ) → k ≤ n → f k ≤ largest n f
 unfolding largest

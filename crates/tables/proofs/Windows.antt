@@ -1,42 +1,29 @@
 -- What the windows of a list keep.
-use Rattle.std.proofs.Common.{◌≡◌, ℕ, zero, suc, ◌+◌, ◌-◌, ◌<◌, ◌≤◌, min, Bool, true, false, leb, List, length, sym, ap, ◌∙◌, ⊎_elim, eq-or-lt_of_le, arith}
+use Rattle.std.proofs.Common.{◌≡◌, ℕ, zero, suc, ◌+◌, ◌-◌, ◌<◌, ◌≤◌, min, Bool, true, false, leb, List, length, get_or, take, drop, ap, ◌∙◌, arith}
 use Rattle.std.proofs.lemmas.Bool.{leb-true, leb-false}
+use Rattle.std.proofs.lemmas.List.{get_or-take, get_or-drop}
 use Rattle.tables.specs.Bottoms.{kept_from, kept_by, Kept, Broken}
 use Rattle.tables.specs.Courses.{sum, recorded}
 use Rattle.tables.specs.Ranges.{every}
 use Rattle.tables.specs.Tables.{at, entry}
 use Rattle.tables.specs.declared.table.Table.{Table}
 use Rattle.tables.proofs.Frames.{under_frames}
-use Rattle.tables.proofs.Ranges.{Left, every_each, every_some, every_skip, every_out}
+use Rattle.tables.proofs.Ranges.{every_each, every_some}
 use Rattle.tables.proofs.Tables.{at_within}
 
 -- the test of a window of k counts from i on
 abbrev pub Fits : (ℕ → ℕ) → List ℕ → ℕ → ℕ → Bool
 Fits f xs i k = leb (sum (recorded xs) (i + k)) (sum (recorded xs) i + f k)
 
+-- the counts of a window
+pub window_at : (xs : List ℕ) (i n k : ℕ) → k < n → get_or (take n (drop i xs)) k 0 ≡ get_or xs (i + k) 0
+window_at xs i n k h = get_or-take n (drop i xs) k 0 h ∙ get_or-drop i xs k 0
+
 module _ (n : ℕ) (f : ℕ → ℕ) (xs : List ℕ) where
   -- the windows from i on, up to the last that is inside the frame and the list
   pub kept_last : (i last : ℕ) → last ≡ min n (length xs - i) → every 1 last (Fits f xs i) ≡ kept_from n f xs i
   unfolding kept_from
   kept_last i last e = ap (λ m. every 1 m (Fits f xs i)) e
-
-  -- no window starts at the end
-  kept_end : kept_from n f xs (length xs) ≡ true
-  unfolding kept_from
-  kept_end = every_out 1 (min n (length xs - length xs)) (Fits f xs (length xs)) (omega arith)
-
-  -- a loop over the starts that has come to the end
-  pub kept_out : (i : ℕ) → length xs ≤ i → Left every 0 i (length xs) (kept_from n f xs) → true ≡ kept_by n f xs
-  unfolding kept_by
-  kept_out i h rest =
-      let p : ℕ → Bool = kept_from n f xs in
-      let m = length xs in
-      let out : every i m p ≡ true =
-      ⊎_elim
-      (λ (e : m ≡ i). sym (ap (λ j. every j m p) e) ∙ every_skip m m p (omega arith) kept_end ∙ every_out (m + 1) m p (omega arith))
-      (λ (l : m < i). every_out i m p l)
-      (eq-or-lt_of_le h) in
-      sym (rest ∙ out)
 
   kept_short : kept_by n f xs ≡ true → (i k : ℕ) → k ≤ n → i + k ≤ length xs → sum (recorded xs) (i + k) ≤ sum (recorded xs) i + f k
   unfolding kept_by kept_from

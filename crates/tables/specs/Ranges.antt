@@ -1,5 +1,14 @@
 -- The largest and the smallest of a range of values, and tests over a range of numbers. Both ends of a range belong to it.
-use Rattle.std.specs.Prelude.{ℕ, zero, suc, ◌-◌, min, max, Bool, true, cond, ◌&&◌, Some, None, Option}
+use Rattle.std.specs.Prelude.{◌≡◌, ℕ, zero, suc, ◌-◌, ◌≤◌, min, max, Bool, true, cond, ◌&&◌, Some, None, Option}
+
+-- calls that give, at each number k up to n, f k
+abbrev pub Gives : {X : Type 0} → (ℕ → X → Type 0) → ℕ → (ℕ → X) → Type 0
+Gives {X} post n f = (k : ℕ) (r : X) → k ≤ n → post k r → r ≡ f k
+
+-- the values f k, k from 0 to n, taken together by op from the first on
+unfoldable pub chosen : (ℕ → ℕ → ℕ) → ℕ → (ℕ → ℕ) → ℕ
+chosen op zero f = f 0
+chosen op (suc n) f = op (chosen op n f) (f (suc n))
 
 -- the largest f k, k from 0 to n
 unfoldable pub largest : ℕ → (ℕ → ℕ) → ℕ

@@ -6,6 +6,7 @@ mod bounds;
 mod combine;
 mod join;
 mod pair;
+mod range;
 mod refusal;
 mod server;
 mod shaper;

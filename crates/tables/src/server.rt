@@ -11,59 +11,49 @@ use crate::bounds::ServerBounds;
 use crate::combine::{convolved_table, excess_table};
 use crate::pair::Pair;
 use crate::sweeps::{convolved_all, deconvolved_at, delay_of, excess_at, settling_of};
-use crate::table::{Fill, Table};
+use crate::table::Table;
 
-// The most that is passed, from the convolution of the two most tables, which is worked out once.
+// The events of a server and its service, of one frame, and their settling length.
 #[derive(Drop)]
-struct PassedMost<'a> {
+struct Settled<'a> {
+    events: &'a Pair,
     service: &'a Pair,
-    carried: [u32; 128],
-    last: usize,
-    ghost few: { last < longest },
+    settling: usize,
+    ghost same: { events.now.most.frame ≡ service.now.most.frame },
+    ghost some: { 1 ≤ settling },
+    ghost few: { settling ≤ events.now.most.frame },
 }
 
-impl Fill for PassedMost<'_> {
-    ghost fills = { λ s k. min (at s.service.now.most k) (deconvolved s.last (λ n. slice_index s.carried n) (at s.service.now.least) k) };
-
-    fn count(&self, length: usize) -> u32 {
-        let most = self.service.most.near(length);
-        most.min(deconvolved_at(&self.carried, &self.service.least, self.last, length))
+impl Settled<'_> {
+    // The most that is passed, from the convolution of the two most tables, which is worked out once.
+    fn passed_most(&self) -> Table
+        ensures { Shows result self.now.events.now.most.frame (most_passed self.now.settling (at self.now.events.now.most) (at self.now.service.now.most) (at self.now.service.now.least)) }
+    {
+        let service = self.service;
+        let carried = convolved_all(&self.events.most, &service.most);
+        let last = self.settling - 1;
+        Table::of(self.events.most.frame(), |length| {
+            let most = service.most.near(length);
+            most.min(deconvolved_at(&carried, &service.least, last, length))
+        })
     }
-}
 
-fn passed_most(events: &Pair, service: &Pair, settling: usize) -> Table
-    requires same { events.now.most.frame ≡ service.now.most.frame }
-    requires some { 1 ≤ settling }
-    requires few { settling ≤ events.now.most.frame }
-    ensures { Shows result events.now.most.frame (most_passed settling (at events.now.most) (at service.now.most) (at service.now.least)) }
-{
-    let fill = PassedMost {
-        service,
-        carried: convolved_all(&events.most, &service.most),
-        last: settling - 1,
-    };
-    Table::of(events.most.frame(), &fill)
-}
-
-fn passed(events: &Pair, service: &Pair, settling: usize) -> Pair
-    requires same { events.now.most.frame ≡ service.now.most.frame }
-    requires some { 1 ≤ settling }
-    requires few { settling ≤ events.now.most.frame }
-    ensures { curves result ≡ pair_of_passed (curves events.now) (curves service.now) settling }
-{
-    Pair {
-        most: passed_most(events, service, settling),
-        least: convolved_table(&events.least, &service.least),
+    fn passed(&self) -> Pair
+        ensures { curves result ≡ pair_of_passed (curves self.now.events.now) (curves self.now.service.now) self.now.settling }
+    {
+        Pair {
+            most: self.passed_most(),
+            least: convolved_table(&self.events.least, &self.service.least),
+        }
     }
-}
 
-fn rest(events: &Pair, service: &Pair) -> Pair
-    requires { events.now.most.frame ≡ service.now.most.frame }
-    ensures { curves result ≡ pair_of_rest (curves events.now) (curves service.now) }
-{
-    Pair {
-        most: excess_table(&service.most, &events.least),
-        least: excess_table(&service.least, &events.most),
+    fn rest(&self) -> Pair
+        ensures { curves result ≡ pair_of_rest (curves self.now.events.now) (curves self.now.service.now) }
+    {
+        Pair {
+            most: excess_table(&self.service.most, &self.events.least),
+            least: excess_table(&self.service.least, &self.events.most),
+        }
     }
 }
 
@@ -77,14 +67,17 @@ pub fn server_bounds(events: &Pair, service: &Pair) -> Result<ServerBounds, Refu
     if events.most.frame() != service.most.frame() {
         return Err(Refusal::Frame);
     }
-    let Some(settling) = settling_of(&events.most, &service.least) else {
-        return Err(Refusal::Overload);
+    let settling = settling_of(&events.most, &service.least).ok_or(Refusal::Overload)?;
+    let settled = Settled {
+        events,
+        service,
+        settling,
     };
     Ok(ServerBounds {
         settling: settling as u32,
         wait: excess_at(&events.most, &service.least, settling),
         delay: delay_of(&events.most, &service.least, settling) as u32,
-        passed: passed(events, service, settling),
-        rest: rest(events, service),
+        passed: settled.passed(),
+        rest: settled.rest(),
     })
 }

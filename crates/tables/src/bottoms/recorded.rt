@@ -2,6 +2,7 @@ ghost use Rattle.std.specs.Prelude.{◌≡◌, ◌≤◌, true, false, length};
 ghost use Rattle.tables.specs.Bottoms.{kept_from, kept_by, Kept, Broken};
 ghost use Rattle.tables.specs.Tables.{at};
 
+use crate::range::every;
 use crate::table::Table;
 
 // Whether each window from start on, of 1 to a frame of counts, keeps the most table.
@@ -10,10 +11,11 @@ fn keeps_from(list: &[u32], most: &Table, start: usize) -> bool
     ensures { result ≡ kept_from most.now.frame (at most.now) list.now start }
 {
     let last = most.frame().min(list.len() - start);
-    let mut count = 0;
-    for k in 1..last + 1 {
-        count += list[start + k - 1] as u64;
-        if count > most.near(k) as u64 {
+    let window = &list[start..start + last];
+    let mut sum = 0;
+    for (before, &count) in window.iter().enumerate() {
+        sum += u64::from(count);
+        if sum > u64::from(most.near(before + 1)) {
             return false;
         }
     }
@@ -26,10 +28,5 @@ pub fn keeps_most(list: &[u32], most: &Table) -> bool
     ensures kept { result ≡ true → Kept (at most.now) list.now }
     ensures broken { result ≡ false → Broken (at most.now) list.now }
 {
-    for start in 0..list.len() {
-        if !keeps_from(list, most, start) {
-            return false;
-        }
-    }
-    true
+    every(0, list.len(), |start| keeps_from(list, most, start))
 }

@@ -1,4 +1,4 @@
-ghost use Rattle.std.specs.Prelude.{◌≡◌, ℕ, ◌≤◌, length as count_of, slice_index};
+ghost use Rattle.std.specs.Prelude.{◌≡◌, ℕ, ◌≤◌, length as count_of, sum as list_sum};
 ghost use Rattle.tables.specs.Bottoms.{pair_of_slots, slotted_answer};
 ghost use Rattle.tables.specs.Courses.{sum, recorded};
 ghost use Rattle.tables.specs.Limits.{longest, limit};
@@ -8,69 +8,50 @@ ghost use Rattle.tables.specs.Tables.{curves, Shows};
 use crate::Refusal;
 use crate::combine::{growth_table, rise_table};
 use crate::pair::Pair;
-use crate::table::{Fill, Table};
+use crate::table::Table;
 
-// The sum of all the counts.
-fn whole(counts: &[u32]) -> u64
+// The sum of the counts.
+fn total(counts: &[u32]) -> u64
     requires { count_of counts.now ≤ longest }
-    ensures { result ≡ sum (recorded counts.now) (count_of counts.now) }
+    ensures { result ≡ list_sum counts.now }
 {
-    let mut all = 0;
-    for k in 0..counts.len() {
-        all += counts[k] as u64;
-    }
-    all
+    counts.iter().map(|&count| u64::from(count)).sum()
 }
 
-// The sum of the first k counts, for each k.
-fn running_sums(counts: &[u32]) -> [u32; 65]
-    requires few { count_of counts.now ≤ longest }
-    requires low { sum (recorded counts.now) (count_of counts.now) ≤ limit }
-    ensures { (k : ℕ) → k ≤ count_of counts.now → slice_index result k ≡ sum (recorded counts.now) k }
-{
-    let mut sums = [0; 65];
-    for k in 0..counts.len() {
-        sums[k + 1] = sums[k] + counts[k];
-    }
-    sums
-}
-
-// Sums that are written out.
+// Counts that are handed over in turn, with a sum that keeps the limit.
 #[derive(Drop)]
-struct Running {
-    sums: [u32; 65],
+struct Circle<'a> {
+    counts: &'a [u32],
+    ghost some: { 1 ≤ count_of counts.now },
+    ghost few: { count_of counts.now ≤ longest },
+    ghost low: { sum (recorded counts.now) (count_of counts.now) ≤ limit },
 }
 
-impl Fill for Running {
-    ghost fills = { λ s k. slice_index s.sums k };
-
-    fn count(&self, length: usize) -> u32 {
-        self.sums[length]
+impl Circle<'_> {
+    // The sum of the first counts.
+    fn sum_to(&self, length: usize) -> u32
+        requires { length ≤ count_of self.now.counts.now }
+        ensures { result ≡ sum (recorded self.now.counts.now) length }
+    {
+        total(&self.counts[..length]) as u32
     }
-}
 
-// The running sums around the circle, laid out over two rounds as every table is.
-fn circle(counts: &[u32]) -> Table
-    requires some { 1 ≤ count_of counts.now }
-    requires few { count_of counts.now ≤ longest }
-    requires low { sum (recorded counts.now) (count_of counts.now) ≤ limit }
-    ensures { Shows result (count_of counts.now) (sum (recorded counts.now)) }
-{
-    let sums = running_sums(counts);
-    Table::of(counts.len(), &Running { sums })
-}
+    // The running sums around the circle, laid out over two rounds as every table is.
+    fn sums(&self) -> Table
+        ensures { Shows result (count_of self.now.counts.now) (sum (recorded self.now.counts.now)) }
+    {
+        Table::of(self.counts.len(), |length| self.sum_to(length))
+    }
 
-// The largest and the smallest sum of k neighbours on the circle, for each k.
-fn around(counts: &[u32]) -> Pair
-    requires some { 1 ≤ count_of counts.now }
-    requires few { count_of counts.now ≤ longest }
-    requires low { sum (recorded counts.now) (count_of counts.now) ≤ limit }
-    ensures { curves result ≡ pair_of_slots (count_of counts.now) (recorded counts.now) }
-{
-    let sums = circle(counts);
-    Pair {
-        most: rise_table(&sums),
-        least: growth_table(&sums),
+    // The largest and the smallest sum of k neighbours on the circle, for each k.
+    fn pair(&self) -> Pair
+        ensures { curves result ≡ pair_of_slots (count_of self.now.counts.now) (recorded self.now.counts.now) }
+    {
+        let sums = self.sums();
+        Pair {
+            most: rise_table(&sums),
+            least: growth_table(&sums),
+        }
     }
 }
 
@@ -83,8 +64,8 @@ pub fn slotted_pair(counts: &[u32]) -> Result<Pair, Refusal>
     if frame < 1 || frame > 64 {
         return Err(Refusal::Frame);
     }
-    if whole(counts) > 1_000_000 {
+    if total(counts) > 1_000_000 {
         return Err(Refusal::Table);
     }
-    Ok(around(counts))
+    Ok(Circle { counts }.pair())
 }

@@ -6,22 +6,7 @@ ghost use Rattle.tables.specs.Tables.{curves};
 
 use crate::Refusal;
 use crate::pair::Pair;
-use crate::table::{Fill, Table};
-
-// The same count in every tick.
-#[derive(Drop)]
-struct Steady {
-    each: u32,
-    ghost low: { each ≤ limit },
-}
-
-impl Fill for Steady {
-    ghost fills = { λ s. line s.each };
-
-    fn count(&self, length: usize) -> u32 {
-        self.each * length as u32
-    }
-}
+use crate::table::Table;
 
 /// The pair of a flow with the same count in every tick: `Frame` where the frame is not 1 to 64, `Table`
 /// where a frame brings more than the limit.
@@ -31,10 +16,10 @@ pub fn steady_pair(frame: usize, count: u32) -> Result<Pair, Refusal>
     if frame < 1 || frame > 64 {
         return Err(Refusal::Frame);
     }
-    if count as u64 * frame as u64 > 1_000_000 {
+    if u64::from(count) * frame as u64 > 1_000_000 {
         return Err(Refusal::Table);
     }
-    let table = Table::of(frame, &Steady { each: count });
+    let table = Table::of(frame, |length| count * length as u32);
     Ok(Pair {
         most: table,
         least: table,

@@ -1,4 +1,4 @@
-ghost use Rattle.std.specs.Prelude.{◌≡◌, ◌≤◌};
+ghost use Rattle.std.specs.Prelude.{◌≡◌, ◌≤◌, length as count_of};
 ghost use Rattle.tables.specs.Curves.{given, nowhere_above};
 ghost use Rattle.tables.specs.Limits.{longest};
 ghost use Rattle.tables.specs.Makes.{answer, pair_answer};
@@ -6,21 +6,16 @@ ghost use Rattle.tables.specs.Tables.{curves};
 
 use super::Pair;
 use crate::Refusal;
-use crate::table::{Fill, Given, Table, is_lawful};
+use crate::range::every;
+use crate::table::{Table, count_at, is_lawful};
 
-// Whether the least is nowhere above the most, at the lengths of the frame.
-fn is_under(frame: usize, most: &[u32], least: &[u32]) -> bool
-    requires { frame ≤ longest }
-    ensures { result ≡ nowhere_above frame (given most.now) (given least.now) }
+// Whether the least is nowhere above the most.
+#[tactic(auto, unfolding(crate::specs::Curves::nowhere_above))]
+fn is_under(most: &[u32], least: &[u32]) -> bool
+    requires { count_of least.now ≡ count_of most.now }
+    ensures { result ≡ nowhere_above (count_of most.now) (given most.now) (given least.now) }
 {
-    let high = Given { counts: most };
-    let low = Given { counts: least };
-    for k in 1..frame + 1 {
-        if low.count(k) > high.count(k) {
-            return false;
-        }
-    }
-    true
+    every(1, most.len(), |k| count_at(least, k) <= count_at(most, k))
 }
 
 impl Pair {
@@ -32,12 +27,12 @@ impl Pair {
         if frame < 1 || frame > 64 || least.len() != frame {
             return Err(Refusal::Frame);
         }
-        if !is_lawful(frame, most) || !is_lawful(frame, least) || !is_under(frame, most, least) {
+        if !is_lawful(most) || !is_lawful(least) || !is_under(most, least) {
             return Err(Refusal::Table);
         }
         Ok(Pair {
-            most: Table::of(frame, &Given { counts: most }),
-            least: Table::of(frame, &Given { counts: least }),
+            most: Table::given(most),
+            least: Table::given(least),
         })
     }
 }

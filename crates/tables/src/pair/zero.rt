@@ -3,19 +3,7 @@ ghost use Rattle.tables.specs.Limits.{longest};
 ghost use Rattle.tables.specs.Tables.{curve, curves, paired, capped};
 
 use super::Pair;
-use crate::table::{Fill, Table};
-
-// Nothing at every length.
-#[derive(Drop)]
-struct Zero;
-
-impl Fill for Zero {
-    ghost fills = { λ _ _. 0 };
-
-    fn count(&self, length: usize) -> u32 {
-        0
-    }
-}
+use crate::table::Table;
 
 // The pair with 0 at every length of the frame.
 fn zero_of(frame: usize) -> Pair
@@ -23,7 +11,7 @@ fn zero_of(frame: usize) -> Pair
     requires few { frame ≤ longest }
     ensures { curves result ≡ paired frame (λ _. 0) (λ _. 0) }
 {
-    let zero = Table::of(frame, &Zero);
+    let zero = Table::of(frame, |_| 0);
     Pair {
         most: zero,
         least: zero,
@@ -51,7 +39,7 @@ impl Pair {
     {
         Pair {
             most: *most,
-            least: Table::of(most.frame(), &Zero),
+            least: Table::of(most.frame(), |_| 0),
         }
     }
 }

@@ -1,45 +1,30 @@
-ghost use Rattle.std.specs.Prelude.{◌≡◌, ◌≤◌, length};
-ghost use Rattle.tables.specs.Curves.{given, lawful};
+ghost use Rattle.std.specs.Prelude.{◌≡◌, ◌≤◌, length as count_of};
+ghost use Rattle.tables.specs.Curves.{Graph, given, lawful};
 ghost use Rattle.tables.specs.Limits.{longest};
 ghost use Rattle.tables.specs.Makes.{answer, table_answer};
-ghost use Rattle.tables.specs.Tables.{curve};
+ghost use Rattle.tables.specs.Tables.{Shows, curve};
 
-use super::{Fill, Table};
+use super::Table;
 use crate::Refusal;
+use crate::range::every;
 
-// The counts of a table from length 1 on.
-#[derive(Drop)]
-pub struct Given<'a> {
-    pub counts: &'a [u32],
-}
-
-impl Fill for Given<'_> {
-    ghost fills = { λ g. given g.counts.now };
-
-    fn count(&self, length: usize) -> u32 {
-        if length == 0 {
-            0
-        } else if length <= self.counts.len() {
-            self.counts[length - 1]
-        } else {
-            0
-        }
-    }
-}
-
-// Whether no count of the frame is smaller than the one before it or above the limit.
-pub fn is_lawful(frame: usize, counts: &[u32]) -> bool
-    requires { frame ≤ longest }
-    ensures { result ≡ lawful frame (given counts.now) }
+// The count at a length, of the counts from length 1 on.
+pub fn count_at(counts: &[u32], length: usize) -> u32
+    requires { length ≤ count_of counts.now }
+    ensures { result ≡ given counts.now length }
 {
-    let given = Given { counts };
-    for k in 1..frame + 1 {
-        let count = given.count(k);
-        if given.count(k - 1) > count || count > 1_000_000 {
-            return false;
-        }
-    }
-    true
+    if length == 0 { 0 } else { counts[length - 1] }
+}
+
+// Whether no count is smaller than the one before it or above the limit.
+#[tactic(auto, unfolding(crate::specs::Curves::lawful))]
+pub fn is_lawful(counts: &[u32]) -> bool
+    ensures { result ≡ lawful (count_of counts.now) (given counts.now) }
+{
+    every(1, counts.len(), |k| {
+        let count = count_at(counts, k);
+        count_at(counts, k - 1) <= count && count <= 1_000_000
+    })
 }
 
 impl Table {
@@ -51,9 +36,17 @@ impl Table {
         if frame < 1 || frame > 64 {
             return Err(Refusal::Frame);
         }
-        if !is_lawful(frame, counts) {
+        if !is_lawful(counts) {
             return Err(Refusal::Table);
         }
-        Ok(Table::of(frame, &Given { counts }))
+        Ok(Table::given(counts))
+    }
+
+    // The same, of counts that are known to be lawful.
+    pub(crate) fn given(counts: &[u32]) -> Table
+        requires { Graph (count_of counts.now) (given counts.now) }
+        ensures { Shows result (count_of counts.now) (given counts.now) }
+    {
+        Table::of(counts.len(), |length| count_at(counts, length))
     }
 }

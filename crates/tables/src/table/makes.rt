@@ -1,37 +1,34 @@
 ghost use Rattle.std.specs.Prelude.{◌≡◌, ℕ, ◌≤◌, slice_index};
 ghost use Rattle.tables.specs.Curves.{Graph};
 ghost use Rattle.tables.specs.Limits.{longest};
+ghost use Rattle.tables.specs.Ranges.{Gives};
 ghost use Rattle.tables.specs.Tables.{Shows};
 
 use super::Table;
 
-// A count for each length of the frame, as the rule that fills a table.
-pub trait Fill {
-    ghost fills: { Self → ℕ → ℕ };
-
-    fn count(&self, length: usize) -> u32
-        requires { length ≤ longest }
-        ensures { result ≡ fills self.now length };
-}
-
-// An array with the counts of the frame; the places past it are still 0.
-fn fill_front<F: Fill>(frame: usize, fill: &F) -> [u32; 129]
-    requires { Graph frame (F.fills fill.now) }
-    ensures { (k : ℕ) → k ≤ frame → slice_index result k ≡ F.fills fill.now k }
+// An array with the counts of the frame; the places past it are still 0. It is a loop, since a closure that
+// calls fill would have to call it at any length.
+fn front<F: Fn(usize) -> u32>(frame: usize, fill: F) -> [u32; 129]
+    requires few { frame ≤ longest }
+    requires callable { (k : ℕ) → k ≤ frame → F.pre fill k }
+    ensures { (f : ℕ → ℕ) → Gives (F.post fill) frame f → (k : ℕ) → k ≤ frame → slice_index result k ≡ f k }
 {
     let mut entries = [0; 129];
-    for k in 1..frame + 1 {
-        entries[k] = fill.count(k);
+    for k in 0..=frame {
+        entries[k] = fill(k);
     }
     entries
 }
 
 impl Table {
-    pub(crate) fn of<F: Fill>(frame: usize, fill: &F) -> Table
-        requires { Graph frame (F.fills fill.now) }
-        ensures { Shows result frame (F.fills fill.now) }
+    // The table with what fill gives at each length of the frame.
+    pub(crate) fn of<F: Fn(usize) -> u32>(frame: usize, fill: F) -> Table
+        requires callable { (k : ℕ) → k ≤ frame → F.pre fill k }
+        requires graph { (f : ℕ → ℕ) × Graph frame f × Gives (F.post fill) frame f }
+        ensures { (f : ℕ → ℕ) → Gives (F.post fill) frame f → Shows result frame f }
     {
-        let mut entries = fill_front(frame, fill);
+        let mut entries = front(frame, fill);
+        // Each entry past the frame is made of two before it.
         for k in frame + 1..129 {
             entries[k] = entries[k - frame] + entries[frame];
         }

@@ -20,7 +20,7 @@ impl Table {
     {
         let frames = length as usize / self.frame;
         let place = length as usize % self.frame;
-        frames as u64 * self.entries[self.frame] as u64 + self.entries[place] as u64
+        frames as u64 * u64::from(self.entries[self.frame]) + u64::from(self.entries[place])
     }
 
     /// The entry at length 1.

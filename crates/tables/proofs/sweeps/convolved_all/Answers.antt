@@ -1,6 +1,8 @@
-use Rattle.std.proofs.Common.{arith}
-use Rattle.tables.proofs.Fills.{filled_more}
+use Rattle.std.proofs.Common.{◌≡◌, rules}
+use Rattle.tables.specs.Curves.{convolved}
+use Rattle.tables.specs.Tables.{at}
+use Rattle.tables.proofs.Made.{made_each}
 use Rattle.tables.proofs.sweeps.convolved_all.Goals as goal
 
-pub loop-k-preserved : goal.loop-k-preserved
-loop-k-preserved c = filled_more c.loop-k.invariant (omega arith) c.convolved_at.ensures.value
+pub returns : goal.returns
+returns c = made_each _ _ _ (λ j r. r ≡ convolved (at c.args.a.now) (at c.args.b.now) j) c.from_fn.ensures.items (λ j r q b called. search rules)

@@ -7,12 +7,13 @@ use Rattle.tables.proofs.Curves.{lawful_graph}
 use Rattle.tables.proofs.Tables.{shows_curve}
 use Rattle.tables.proofs.table.Table.new.Goals as goal
 
-pub of-requires : goal.of-requires
-of-requires c = search (rules, lawful_graph)
+pub given-requires : goal.given-requires
+given-requires c = search (rules, lawful_graph)
 
 pub returns : goal.returns
 returns c =
-    let n = length c.args.counts.now in
+    let xs = c.args.counts.now in
+    let n = length xs in
     let fits : framed n ≡ true = and_from _ _ (le-leb 1 n (omega arith)) (le-leb n longest (omega arith)) in
-    let law : lawful n (given c.args.counts.now) ≡ true = search rules in
-    ap Ok (shows_curve c.of.ensures) ∙ sym (cond-true _ _ _ fits ∙ cond-true _ _ _ law)
+    let law : lawful n (given xs) ≡ true = search rules in
+    ap Ok (shows_curve c.given.ensures) ∙ sym (cond-true _ _ _ fits ∙ cond-true _ _ _ law)
