@@ -35,7 +35,7 @@ pub trait Flow {
         ensures views { views self.new ≡ map next_view (views self.old) };
 
     /// The bounds of the stage at a place, counted from 0 at the top, or how far the place lies past the
-    /// last stage.
+    /// last stage, from where a stage over two flows goes on counting in the second.
     fn bounds(&self, place: usize) -> Result<StageBounds, usize>
         ensures { result ≡ look (views self.now) place };
 }

@@ -13,6 +13,7 @@ use tables::{Refusal, slotted_pair};
 /// The counts of a list in turn, for ever.
 #[derive(Clone, Copy)]
 pub struct Slotted {
+    // An array and a count, since a flow can be copied and needs no heap.
     counts: [u32; 64],
     // How many counts there are.
     frame: usize,

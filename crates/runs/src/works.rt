@@ -12,7 +12,8 @@ use crate::states::{Fitted, Running};
 use stages::Stage;
 
 impl<P: Stage + Drop> Running<P> {
-    // The next call of a list.
+    // The next call of a list. What a carry takes stays apart: put into one struct it would be taken out again
+    // for each call.
     fn obey<M: Copy>(
         &mut self,
         log: &mut Log,

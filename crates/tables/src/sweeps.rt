@@ -24,7 +24,8 @@ pub(crate) fn convolved_all(a: &Table, b: &Table) -> [u32; 128]
     array::from_fn(|k| convolved_at(a, b, k))
 }
 
-// The largest f(k + i) - b(i), i from 0 to last, of the counts f that are written out.
+// The largest f(k + i) - b(i), i from 0 to last, of the counts f that are written out: an array, where `rise_at`
+// reads a table.
 #[tactic(auto, unfolding(crate::specs::Curves::deconvolved))]
 pub(crate) fn deconvolved_at(f: &[u32; 128], b: &Table, last: usize, k: usize) -> u32
     requires few { last < longest }
