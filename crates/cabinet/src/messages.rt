@@ -118,6 +118,7 @@ pub(crate) fn line_up(heap: Global, sheet: &Sheet) -> Result<Vec<Message>, Alloc
         Source::new(Sender::Pack(4), &sheet.packs.fourth),
     ];
     let mut messages = Vec::new(heap);
+    // Tick by tick, since each sender has a row of its own.
     for tick in 0..LONG {
         for source in sources.iter_mut() {
             source.send(&mut messages, tick)?;

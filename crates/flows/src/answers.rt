@@ -4,7 +4,7 @@ ghost use Rattle.flows.specs.Checks.{number_given};
 
 use tables::Refusal;
 
-/// The number of the refusal, 0 where there is none.
+/// The number of an answer as users know it: 0, or that of the refusal.
 pub fn number_given<T: Drop>(answer: Result<T, Refusal>) -> u8
     ensures { result ≡ number_given answer }
 {

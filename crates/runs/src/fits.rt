@@ -9,6 +9,7 @@ use flows::StageBounds;
 use stages::Stage;
 
 impl<P: Stage + Drop> Fitted<P> {
+    // Whether something was drawn is told by no type: a stage that has ticked has the same one.
     /// A network from which nothing was drawn.
     pub fn new(network: P) -> Fitted<P>
         requires { All Idle (P.Flow.views network) }

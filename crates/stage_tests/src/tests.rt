@@ -25,7 +25,8 @@ fn passes<T: Stage>(stage: &mut T, ticks: &[(u32, u32)]) -> bool
     true
 }
 
-// Whether the next counts are these.
+// Whether the next counts are these. This and the next stand in the tests of `flows` too: a test's helper is
+// not exported, and a public call would need a contract and an edit of its own for three lines.
 fn hands_over<F: Flow>(flow: &mut F, counts: &[u32]) -> bool
     ensures { Decides result ((k : ℕ) → k < length counts.now → F.Flow.course flow.old k ≡ slice_index counts.now k) }
 {

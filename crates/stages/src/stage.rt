@@ -12,6 +12,7 @@ pub struct Counts {
     pub waiting: u32,
 }
 
+// Each of the three has a rule, bounds and a closed form of its own; what they share is this trait.
 /// A server, a shaper or a join.
 pub trait Stage: Flow {
     // The stage itself, the first of the stages of its network.

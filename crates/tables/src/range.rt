@@ -1,5 +1,6 @@
 // The largest and the smallest of a range of values, and tests over a range of numbers. Both ends of a
-// range belong to it. A chain over a range says too little of its items to prove these, so each is a loop.
+// range belong to it. A chain over a range says too little of its items to prove these, so each is a loop. What
+// a closure is asked stands at each function, since it is about the range of that call.
 ghost use Rattle.std.specs.Prelude.{◌≡◌, ℕ, ◌≤◌, Bool, IfSome};
 ghost use Rattle.tables.specs.Ranges.{Gives, chosen, largest, smallest, first, every};
 

@@ -4,6 +4,7 @@ ghost use Rattle.tables.specs.Curves.{convolved, deconvolved, excess, growth, se
 ghost use Rattle.tables.specs.Limits.{longest, limit};
 ghost use Rattle.tables.specs.Tables.{at};
 
+// A length is a plain number, and each formula says how far it reads: a type for it would be taken apart in each.
 use crate::range::{every, first, largest, smallest};
 use crate::table::Table;
 use std::array;

@@ -68,7 +68,7 @@ pub(crate) fn block(kind: u8, frame: u8, most: &[u32], least: &[u32]) -> [u8; 51
     summed(&laid_out(kind, frame, most, least))
 }
 
-// The number and the block of a refusal; `None` where the book is accepted.
+// The number and the block of a refusal, as they are printed; `None` where the book is accepted.
 pub(crate) fn refused(book: &[u8]) -> Option<(u8, u32)>
     ensures { result ≡ option_map (λ t. (number_of t.refusal, t.block)) (result_err (book_answer book.now)) }
 {

@@ -21,6 +21,7 @@ fn length(rt: HostRuntime) {
 fn check_sum(rt: HostRuntime) {
     let right = block(EVENTS, 1, &[1], &[0]);
     assert_eq!(rt; refused(&right), None);
+    // The places of the check are what is meant, so they are counted.
     for place in 508..512 {
         let mut wrong = right;
         wrong[place] ^= 1;
@@ -51,6 +52,7 @@ fn kind(rt: HostRuntime) {
         let blocks = [first, block(kind, 1, &[1], &[0])];
         assert_eq!(rt; refused(blocks.as_flattened()), Some((3, 2)));
     }
+    // The places that are 0, before the entries and behind them.
     let right = laid_out(EVENTS, 1, &[1], &[0]);
     for place in 2..8 {
         let mut wrong = right;

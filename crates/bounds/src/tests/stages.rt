@@ -7,7 +7,7 @@ ghost use Rattle.tables.specs.Refusals.{number_of};
 use std::test::Fail;
 use tables::{Pair, Refusal, Table, joined, server_bounds, shaper_bounds};
 
-// The number of a refusal; `None` where there is none.
+// The number of a refusal, as users know it; `None` where there is none.
 fn number<T: Copy>(answer: Result<T, Refusal>) -> Option<u8>
     ensures { result ≡ option_map number_of (result_err answer) }
 {
