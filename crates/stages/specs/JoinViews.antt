@@ -1,5 +1,5 @@
 -- A join field by field: whether it is open, the two flows, and their pair.
-use Rattle.std.specs.Prelude.{ℕ, Bool, List, ◌∷◌, ◌++◌, None}
+use Rattle.std.specs.Prelude.{Bool, List, ◌∷◌, ◌++◌, None}
 use Rattle.tables.specs.Tables.{at}
 use Rattle.tables.specs.declared.bounds.StageKind.TheVariants.{Join as JoinKind}
 use Rattle.tables.specs.declared.pair.Pair.{Pair}

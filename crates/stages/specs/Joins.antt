@@ -2,7 +2,6 @@
 use Rattle.std.specs.Prelude.{◌≡◌, ℕ, List, map, is_ok, Ok, Err, Result}
 use Rattle.tables.specs.Bounds.{join_answer}
 use Rattle.tables.specs.Tables.{Curves, curves, paired}
-use Rattle.tables.specs.declared.pair.Pair.{Pair}
 use Rattle.tables.specs.declared.refusal.Refusal.{Refusal}
 use Rattle.flows.specs.Views.{View, tail, next_view}
 use Rattle.flows.specs.declared.flow.Flow.{Ghosts}

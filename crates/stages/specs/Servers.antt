@@ -2,7 +2,6 @@
 use Rattle.std.specs.Prelude.{◌≡◌, ℕ, List, map, Ok, Err, Result}
 use Rattle.tables.specs.Bounds.{Serving, serving, server_answer}
 use Rattle.tables.specs.Tables.{curves, paired}
-use Rattle.tables.specs.declared.bounds.ServerBounds.{ServerBounds}
 use Rattle.tables.specs.declared.refusal.Refusal.{Refusal}
 use Rattle.flows.specs.Views.{View, tail, next_view}
 use Rattle.flows.specs.declared.flow.Flow.{Ghosts}

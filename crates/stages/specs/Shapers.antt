@@ -3,7 +3,6 @@ use Rattle.std.specs.Prelude.{◌≡◌, ℕ, List, map, Ok, Err, Result}
 use Rattle.tables.specs.Bounds as bounds
 use Rattle.tables.specs.Bounds.{shaping, shaper_answer}
 use Rattle.tables.specs.Tables.{curve, curves, paired}
-use Rattle.tables.specs.declared.bounds.ShaperBounds.{ShaperBounds}
 use Rattle.tables.specs.declared.refusal.Refusal.{Refusal}
 use Rattle.tables.specs.declared.table.Table.{Table}
 use Rattle.courses.specs.Steps.{Shaping, empty}

@@ -1,7 +1,6 @@
-use Rattle.std.proofs.Common.{◌≡◌, ℕ, ◌+◌, ◌%◌, sym, ap, ◌∙◌, subst, mod-lt}
+use Rattle.std.proofs.Common.{ℕ, sym, ap, ◌∙◌, subst}
 use Rattle.courses.specs.Bottoms.{clocked}
 use Rattle.courses.proofs.Bottoms.{clocked_sum}
-use Rattle.tables.specs.Bottoms.{up}
 use Rattle.tables.specs.Courses.{sum}
 use Rattle.tables.proofs.Clocks.{clocked_some}
 use Rattle.flows.specs.Checks.{or_nothing}

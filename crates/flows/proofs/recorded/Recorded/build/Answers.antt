@@ -1,4 +1,4 @@
-use Rattle.std.proofs.Common.{◌≡◌, length, sym, ap, ◌∙◌, subst, arith}
+use Rattle.std.proofs.Common.{length, sym, ap, ◌∙◌, subst, arith}
 use Rattle.tables.specs.Courses.{later, recorded}
 use Rattle.flows.specs.Checks.{or_nothing}
 use Rattle.flows.specs.Views.{KeepsPair}

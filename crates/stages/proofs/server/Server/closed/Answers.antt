@@ -1,5 +1,3 @@
-use Rattle.flows.specs.Views.{KeepsPair}
-use Rattle.stages.specs.ServerViews.{server_figures}
 use Rattle.stages.proofs.Opens.{closed_keeps, closed_fine}
 use Rattle.stages.proofs.server.Server.closed.Goals as goal
 

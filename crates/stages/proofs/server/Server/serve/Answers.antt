@@ -1,4 +1,4 @@
-use Rattle.std.proofs.Common.{Some, ap, sym, subst, refl, ◌∙◌, rules}
+use Rattle.std.proofs.Common.{ap, sym, subst, refl, ◌∙◌, rules}
 use Rattle.flows.specs.Views.{All, Fine}
 use Rattle.stages.specs.ServerViews.{serving_view, serving_views}
 use Rattle.stages.proofs.Opens.{first_small}

@@ -1,7 +1,6 @@
-use Rattle.std.proofs.Common.{◌≡◌, ℕ, Some, None, Option, refl, ◌∙◌, is_some}
+use Rattle.std.proofs.Common.{◌≡◌, ℕ, Some, None, Option, refl, ◌∙◌}
 use Rattle.std.specs.Option.{unwrap_or}
 use Rattle.courses.specs.Steps.{shaper_after}
-use Rattle.tables.specs.Tables.{at}
 use Rattle.stages.specs.ShaperViews.{shaping_view}
 use Rattle.stages.proofs.shaper.Shaper.held.Goals as goal
 
