@@ -13,6 +13,9 @@ pub struct CheckSums {
 /// The bytes of a block before its check.
 pub type Summed = [u8; 508];
 
+/// The bytes of a block, with its check.
+pub type BlockBytes = [u8; 512];
+
 /// The check sums of a block's bytes.
 pub fn check_sums(bytes: &Summed) -> CheckSums
     ensures sum { result.sum ≡ total bytes.now % 65535 }
@@ -32,7 +35,7 @@ pub fn check_sums(bytes: &Summed) -> CheckSums
 }
 
 // Whether the check of a block holds its sums.
-pub fn is_checked(block: &[u8; 512]) -> bool
+pub fn is_checked(block: &BlockBytes) -> bool
     ensures { result ≡ checked block.now }
 {
     let sums = check_sums(block.first_chunk::<508>().unwrap());

@@ -3,12 +3,12 @@ ghost use Rattle.tables.specs.Makes.{answer};
 ghost use Rattle.book.specs.Reads.{block_read, parted_answer, read_answer};
 
 use super::{Block, Entries};
-use crate::sums::is_checked;
+use crate::sums::{BlockBytes, is_checked};
 use crate::zeros::is_zero;
 use tables::Refusal;
 
 // Takes a block apart: `Kind` where the kind is unknown or a fixed zero is not 0.
-fn parted<'a>(block: &'a [u8; 512]) -> Result<Block<'a>, Refusal>
+fn parted<'a>(block: &'a BlockBytes) -> Result<Block<'a>, Refusal>
     ensures { answer block_read result ≡ parted_answer block.now }
 {
     let [kind, frame, z0, z1, z2, z3, z4, z5, rest @ ..] = block.as_slice() else {
@@ -39,7 +39,7 @@ impl<'a> Block<'a> {
     pub fn read(block: &'a [u8]) -> Result<Block<'a>, Refusal>
         ensures { answer block_read result ≡ read_answer block.now }
     {
-        let block = <&[u8; 512]>::try_from(block).map_err(|_| Refusal::Length)?;
+        let block = <&BlockBytes>::try_from(block).map_err(|_| Refusal::Length)?;
         if !is_checked(block) {
             return Err(Refusal::Check);
         }
