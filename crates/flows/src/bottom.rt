@@ -19,10 +19,11 @@ pub trait Course {
         ensures next { counts self.new ≡ tail (counts self.old) };
 }
 
-/// A flow with no stage below it: a course, and the pair that it keeps.
+/// A flow with no stage below it: a course, and the pair that it keeps. Whoever makes one owes the proof that it
+/// does.
 pub struct Bottom<C: Course> {
-    pub(crate) course: C,
-    pub(crate) pair: Pair,
+    pub course: C,
+    pub pair: Pair,
     ghost keeps: { KeepsPair pair (C.counts course) },
 }
 

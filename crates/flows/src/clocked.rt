@@ -14,7 +14,7 @@ use tables::{Refusal, clocked_pair};
 #[derive(Clone, Copy)]
 pub struct Clocked {
     period: u32,
-    // What a beat brings: 1, and 0 where the flow is closed.
+    // What a beat brings: 1, and 0 where the flow is closed. It is handed over as it stands, so no flag is asked.
     beat: u32,
     // The ticks so far and the jitter, modulo the period.
     phase: u32,

@@ -8,6 +8,8 @@ ghost use Rattle.own_flow.specs.Bursts.{burst, burst_answer};
 use flows::{Flow, StageBounds};
 use tables::Pair;
 
+// `Flow` by hand, to show all that it asks of a type of one's own: as a `Course` of a `Bottom`, only `draw` would
+// be left to write.
 /// A burst in the first tick, and nothing after it.
 #[derive(Clone, Copy)]
 pub struct Burst {

@@ -2,6 +2,7 @@
 use crate::states::Running;
 use stages::Stage;
 
+// An enum, and no list of closures: the calls are data that the theorem over lists speaks of.
 /// One call of a list: a tick without messages, or a carry that is offered so many of what is left of the
 /// in-list and so many of the places that are left of the out-list, or all of them where fewer are left.
 #[derive(Clone, Copy, PartialEq, Eq, Debug)]

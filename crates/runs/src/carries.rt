@@ -39,6 +39,7 @@ impl<P: Stage + Drop> Running<P> {
         Ok(())
     }
 
+    // What a carry takes is named by the rules one by one, so it stays so here.
     /// One tick that carries messages: the first of the in-list that arrive go in, the first places of the
     /// out-list that pass are written, what the ring holds first, and the remainder stays in the ring.
     pub fn carry<M: Copy>(

@@ -31,34 +31,26 @@ impl<P: Stage + Drop> Running<P> {
         ensures taken { result.taken ≤ length input.now }
         ensures given { result.given ≤ length out.old }
     {
-        let Done {
-            taken,
-            given,
-            refused,
-        } = done;
+        let refused = Done {
+            refused: done.refused + 1,
+            ..done
+        };
         match call {
             Call::Tick => match self.tick(log) {
                 Ok(_) => done,
-                Err(_) => Done {
-                    taken,
-                    given,
-                    refused: refused + 1,
-                },
+                Err(_) => refused,
             },
             Call::Carry { offered, space } => {
+                let (taken, given) = (done.taken, done.given);
                 let last = taken + offered.min(input.len() - taken);
                 let end = given + space.min(out.len() - given);
                 match self.carry(log, ring, &input[taken..last], &mut out[given..end]) {
                     Ok(counts) => Done {
                         taken: taken + counts.arrived as usize,
                         given: given + counts.passed as usize,
-                        refused,
+                        ..done
                     },
-                    Err(_) => Done {
-                        taken,
-                        given,
-                        refused: refused + 1,
-                    },
+                    Err(_) => refused,
                 }
             }
         }

@@ -49,18 +49,13 @@ fn shows(pair: &Pair, most: &[u32], least: &[u32]) -> bool
 fn stands<F: Flow>(flow: &F, place: usize, wait: u32, delay: u32) -> bool
     ensures { MatchResult (look (F.Flow.views flow.now) place) (λ b. Decides result ((b.wait ≡ wait) × (b.delay ≡ delay))) (λ _. result ≡ false) }
 {
-    match flow.bounds(place) {
-        Ok(bounds) => bounds.wait == wait && bounds.delay == delay,
-        Err(_) => false,
-    }
+    flow.bounds(place)
+        .is_ok_and(|bounds| bounds.wait == wait && bounds.delay == delay)
 }
 
 // Whether a place lies so far past the last stage.
 fn is_past<F: Flow>(flow: &F, place: usize, past: usize) -> bool
     ensures { Decides result (look (F.Flow.views flow.now) place ≡ Err past) }
 {
-    match flow.bounds(place) {
-        Ok(_) => false,
-        Err(far) => far == past,
-    }
+    flow.bounds(place).err() == Some(past)
 }

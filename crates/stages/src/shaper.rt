@@ -22,6 +22,7 @@ pub struct Shaper<E: Flow + Drop> {
     shaping: Table,
     // What waits; None in a closed shaper.
     waiting: Option<u32>,
+    // As many counts as the longest frame, in fixed memory: building can't fail, and a tick needs no heap.
     past: [u32; 64],
     bounds: ShaperBounds,
     ghost small: { bounds.wait ≤ limit },

@@ -12,7 +12,8 @@ pub struct Counts {
     pub waiting: u32,
 }
 
-// Each of the three has a rule, bounds and a closed form of its own; what they share is this trait.
+// Each of the three has a rule, bounds and a closed form of its own, and says its fields in each; what they share
+// is this trait, and looking below.
 /// A server, a shaper or a join.
 pub trait Stage: Flow {
     // The stage itself, the first of the stages of its network.

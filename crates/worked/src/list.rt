@@ -2,6 +2,7 @@
 ghost use Rattle.std.specs.Prelude.{◌≡◌};
 ghost use Rattle.worked.specs.Examples.{Clocks, Limits, Records, Rules, Runs, Serves, Shapes, Shortest, Steady};
 
+// A number, and not nothing, so that there is an answer that an edit can turn.
 /// How many worked examples there are: each clause after the first states one.
 pub fn examples() -> u8
     ensures value { result ≡ 9 }

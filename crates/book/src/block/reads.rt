@@ -24,7 +24,7 @@ fn parted<'a>(block: &'a BlockBytes) -> Result<Block<'a>, Refusal>
         most,
         least,
     };
-    // The numbers of the kinds stand here alone: an enum of kinds would say each a second time.
+    // An enum of kinds, made of the byte, would name each case of `Block` a second time.
     match *kind {
         1 => Ok(Block::Events(entries)),
         2 => Ok(Block::Service(entries)),

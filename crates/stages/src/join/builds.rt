@@ -17,6 +17,7 @@ impl<A: Flow + Drop, B: Flow + Drop> Join<A, B> {
         Ok(())
     }
 
+    // That nothing was drawn is asked here, since no type tells it.
     /// A join of two flows from which nothing was drawn; closed where the check refuses.
     pub fn build(left: A, right: B) -> Join<A, B>
         requires fresh { All Idle (A.Flow.views left) }
@@ -35,7 +36,7 @@ impl<A: Flow + Drop, B: Flow + Drop> Join<A, B> {
         }
     }
 
-    // A join that draws nothing and hands over nothing.
+    // A join that draws nothing and hands over nothing. Each stage says its own fields here.
     fn closed(left: A, right: B) -> Join<A, B>
         ensures left { result.left ≡ left }
         ensures right { result.right ≡ right }

@@ -17,6 +17,7 @@ impl<E: Flow + Drop, S: Flow + Drop> Server<E, S> {
         Ok(())
     }
 
+    // That nothing was drawn is asked here, since no type tells it.
     /// A server over two flows from which nothing was drawn; closed where the check refuses.
     pub fn build(events: E, service: S) -> Server<E, S>
         requires fresh { All Idle (E.Flow.views events) }
@@ -35,7 +36,7 @@ impl<E: Flow + Drop, S: Flow + Drop> Server<E, S> {
         }
     }
 
-    // A server that draws nothing and hands over nothing.
+    // A server that draws nothing and hands over nothing. Each stage says its own fields here.
     fn closed(events: E, service: S) -> Server<E, S>
         ensures events { result.events ≡ events }
         ensures service { result.service ≡ service }

@@ -5,7 +5,7 @@ use super::Server;
 use flows::{Flow, StageBounds};
 use tables::{Pair, StageKind};
 
-// What a tick of a server saw.
+// What a tick of a server saw; a stage's `Counts` has no rest.
 #[derive(Clone, Copy)]
 pub struct Served {
     pub arrived: u32,

@@ -19,6 +19,7 @@ impl<E: Flow + Drop> Shaper<E> {
         Ok(())
     }
 
+    // That nothing was drawn is asked here, since no type tells it.
     /// A shaper over a flow from which nothing was drawn; closed where the check refuses.
     pub fn build(events: E, table: Table) -> Shaper<E>
         requires { All Idle (E.Flow.views events) }
@@ -37,7 +38,7 @@ impl<E: Flow + Drop> Shaper<E> {
         }
     }
 
-    // A shaper that draws nothing and hands over nothing.
+    // A shaper that draws nothing and hands over nothing. Each stage says its own fields here.
     fn closed(events: E, table: Table) -> Shaper<E>
         ensures events { result.events ≡ events }
         ensures table { result.shaping ≡ table }

@@ -17,9 +17,9 @@ pub(crate) fn room(entries: &[u32], past: &[u32; 64]) -> u64
 {
     let mut room = u64::from(entries[0]);
     let mut passed = 0;
-    for (k, &entry) in entries.iter().enumerate() {
+    for (&entry, &count) in entries.iter().zip(past) {
         room = room.min(u64::from(entry).saturating_sub(passed));
-        passed += u64::from(past[k]);
+        passed += u64::from(count);
     }
     room
 }

@@ -5,7 +5,7 @@ use super::Shaper;
 use super::memory::{put_first, room};
 use flows::Flow;
 
-// What a tick of a shaper saw.
+// What a tick of a shaper saw; what waits after it is read of the shaper.
 #[derive(Clone, Copy)]
 pub struct Shaped {
     pub arrived: u32,
