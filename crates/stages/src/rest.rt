@@ -29,6 +29,6 @@ impl<E: Flow + Drop, S: Flow + Drop> Flow for Rest<E, S> {
     }
 
     fn bounds(&self, place: usize) -> Result<StageBounds, usize> {
-        self.0.bounds_at(place)
+        self.0.bounds(place)
     }
 }

@@ -33,19 +33,6 @@ impl<A: Flow + Drop, B: Flow + Drop> Join<A, B> {
             rest: None,
         }
     }
-
-    // The bounds of the stage at a place of the network, the left flow's before the right's.
-    fn bounds_at(&self, place: usize) -> Result<StageBounds, usize>
-        ensures { result ≡ look (join_views A.Flow B.Flow self.now) place }
-    {
-        if place == 0 {
-            return Ok(self.own_bounds());
-        }
-        if !self.is_open {
-            return Err(place - 1);
-        }
-        bounds_below(&self.left, &self.right, place - 1)
-    }
 }
 
 impl<A: Flow + Drop, B: Flow + Drop> Flow for Join<A, B> {
@@ -68,7 +55,13 @@ impl<A: Flow + Drop, B: Flow + Drop> Flow for Join<A, B> {
     }
 
     fn bounds(&self, place: usize) -> Result<StageBounds, usize> {
-        self.bounds_at(place)
+        if place == 0 {
+            return Ok(self.own_bounds());
+        }
+        if !self.is_open {
+            return Err(place - 1);
+        }
+        bounds_below(&self.left, &self.right, place - 1)
     }
 }
 

@@ -4,7 +4,6 @@ ghost use Rattle.stages.specs.ServerViews.{server_figures};
 ghost use Rattle.stages.specs.Servers.{queue, server_views};
 
 use super::Server;
-use crate::below::bounds_below;
 use flows::{Flow, StageBounds};
 use tables::{Pair, StageKind};
 
@@ -26,19 +25,6 @@ impl<E: Flow + Drop, S: Flow + Drop> Server<E, S> {
             pair: self.bounds.passed,
             rest: Some(self.bounds.rest),
         }
-    }
-
-    // The bounds of the stage at a place of the network, events before service.
-    pub(crate) fn bounds_at(&self, place: usize) -> Result<StageBounds, usize>
-        ensures { result ≡ look (server_views E.Flow S.Flow self.now) place }
-    {
-        if place == 0 {
-            return Ok(self.own_bounds());
-        }
-        if self.waiting.is_none() {
-            return Err(place - 1);
-        }
-        bounds_below(&self.events, &self.service, place - 1)
     }
 
     /// The pair of what it leaves of its service.

@@ -2,6 +2,7 @@ ghost use Rattle.std.specs.Prelude.{refl};
 ghost use Rattle.stages.specs.Servers.{passing, server_view, server_views, server_below};
 
 use super::Server;
+use crate::below::bounds_below;
 use crate::stage::{Counts, Stage};
 use flows::{Flow, StageBounds};
 use tables::{Pair, StageKind};
@@ -26,7 +27,14 @@ impl<E: Flow + Drop, S: Flow + Drop> Flow for Server<E, S> {
     }
 
     fn bounds(&self, place: usize) -> Result<StageBounds, usize> {
-        self.bounds_at(place)
+        if place == 0 {
+            return Ok(self.own_bounds());
+        }
+        if self.waiting.is_none() {
+            return Err(place - 1);
+        }
+        // The events' stages before the service's.
+        bounds_below(&self.events, &self.service, place - 1)
     }
 }
 

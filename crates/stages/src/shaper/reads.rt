@@ -26,17 +26,4 @@ impl<E: Flow + Drop> Shaper<E> {
             rest: None,
         }
     }
-
-    // The bounds of the stage at a place of the network.
-    pub(crate) fn bounds_at(&self, place: usize) -> Result<StageBounds, usize>
-        ensures { result ≡ look (shaper_views E.Flow self.now) place }
-    {
-        if place == 0 {
-            return Ok(self.own_bounds());
-        }
-        if self.waiting.is_none() {
-            return Err(place - 1);
-        }
-        self.events.bounds(place - 1)
-    }
 }

@@ -26,7 +26,13 @@ impl<E: Flow + Drop> Flow for Shaper<E> {
     }
 
     fn bounds(&self, place: usize) -> Result<StageBounds, usize> {
-        self.bounds_at(place)
+        if place == 0 {
+            return Ok(self.own_bounds());
+        }
+        if self.waiting.is_none() {
+            return Err(place - 1);
+        }
+        self.events.bounds(place - 1)
     }
 }
 
