@@ -9,12 +9,14 @@ use Rattle.tables.proofs.bottoms.clocked.clocked_pair.Goals as goal
 
 pub of-requires-clause-graph : goal.of-requires-clause-graph
 of-requires-clause-graph c =
+    let long = c.in_ok-check_frame.ensures.within in
     let p = c.args.period in
     let j = c.args.jitter in
     (clocked_most p j, clocked_graph c.args.frame p j (omega arith) (omega arith) (omega arith) (omega arith) (omega arith), λ k r h gives. search rules)
 
 pub of-requires-2-clause-graph : goal.of-requires-2-clause-graph
 of-requires-2-clause-graph c =
+    let long = c.in_ok-check_frame.ensures.within in
     let p = c.args.period in
     let j = c.args.jitter in
     (clocked_least p j, least_graph c.args.frame p j (omega arith) (omega arith) (omega arith), λ k r h gives. search rules)
@@ -27,6 +29,7 @@ invariant_of-result c =
 
 pub returns : goal.returns
 returns c =
+    let long = c.in_ok-check_frame.ensures.within in
     let n = c.args.frame in
     let p = c.args.period in
     let j = c.args.jitter in

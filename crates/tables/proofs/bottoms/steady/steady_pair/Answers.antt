@@ -9,11 +9,13 @@ use Rattle.tables.proofs.bottoms.steady.steady_pair.Goals as goal
 
 pub of-table-requires-clause-graph : goal.of-table-requires-clause-graph
 of-table-requires-clause-graph c =
+    let long = c.in_ok-check_frame.ensures.within in
     let wide = ap (λ n. n * c.args.frame) c.from.ensures in
     (line c.args.count, line_graph c.args.frame c.args.count (omega arith) (omega arith) (omega arith), λ k r h gives. search rules)
 
 pub returns : goal.returns
 returns c =
+    let long = c.in_ok-check_frame.ensures.within in
     let n = c.args.frame in
     let fits : framed n ≡ true = and_from _ _ (le-leb 1 n (omega arith)) (le-leb n longest (omega arith)) in
     let wide = ap (λ n. n * c.args.frame) c.from.ensures in
