@@ -1,5 +1,5 @@
 -- The steps of the loops over a range, and what follows of their results.
-use Rattle.std.proofs.Common.{◌≡◌, ℕ, zero, suc, ◌+◌, ◌-◌, ◌<◌, ◌≤◌, min, max, Bool, true, false, is_some, Some, None, sym, refl, ap, ◌∙◌, ⊎_elim, le_of_suc-le-suc, eq-or-lt_of_le, add-one, arith}
+use Rattle.std.proofs.Common.{◌≡◌, ℕ, zero, suc, ◌+◌, ◌-◌, ◌<◌, ◌≤◌, min, max, Bool, true, false, not, is_some, Some, None, sym, refl, ap, ◌∙◌, ⊎_elim, le_of_suc-le-suc, eq-or-lt_of_le, add-one, arith}
 use Rattle.std.proofs.lemmas.Bool.{cond_both, both_ways, cases_Bool, and_from, and_parts, and_cases}
 use Rattle.tables.specs.Ranges.{chosen, largest, smallest, seek, first, all, every}
 
@@ -153,6 +153,17 @@ module _ (p : ℕ → Bool) where
   pub every_each : (a b : ℕ) → every a b p ≡ true → (j : ℕ) → a ≤ j → j ≤ b → p j ≡ true
   unfolding every
   every_each a b h j low high = all_each a (suc b - a) h j low (omega arith)
+
+-- each passes where none is found that does not
+module _ (p : ℕ → Bool) where
+  seek_all : (k n : ℕ) → is_some (seek k n (λ j. not (p j))) ≡ not (all k n p)
+  unfolding seek all
+  seek_all k zero = refl
+  seek_all k (suc n) = ⊎_elim (λ (pass : p k ≡ true). rw pass (seek_all (suc k) n)) (λ (no-pass : p k ≡ false). rw no-pass refl) (cases_Bool (p k))
+
+  pub first_every : (a b : ℕ) → is_some (first a b (λ j. not (p j))) ≡ not (every a b p)
+  unfolding first every
+  first_every a b = seek_all a (suc b - a)
 
 -- where not each passes, some number of the range does not
 module _ (p : ℕ → Bool) where

@@ -52,10 +52,12 @@ pub fn every<F: Fn(usize) -> bool>(start: usize, last: usize, passes: F) -> bool
     requires { (k : ℕ) → start ≤ k → k ≤ last → F.pre passes k }
     ensures { (p : ℕ → Bool) → Gives (F.post passes) last p → result ≡ every start last p }
 {
-    for k in start..=last {
-        if !passes(k) {
-            return false;
-        }
-    }
-    true
+    first(
+        start,
+        last,
+        |k|
+            requires { F.pre passes k }
+        { !passes(k) },
+    )
+    .is_none()
 }

@@ -1,7 +1,7 @@
 use Rattle.std.proofs.Common.{◌≡◌, true, Ok, sym, ap, ◌∙◌, arith, rules}
 use Rattle.std.proofs.lemmas.Bool.{le-leb, cond-true, and_from}
 use Rattle.tables.specs.Bottoms.{timed, clocked_most, clocked_least}
-use Rattle.tables.specs.Limits.{longest, longest_period, longest_jitter}
+use Rattle.tables.specs.Limits.{longest_period, longest_jitter}
 use Rattle.tables.specs.Makes.{framed}
 use Rattle.tables.proofs.Clocks.{clocked_graph, least_graph, clocked_under}
 use Rattle.tables.proofs.Pairs.{keeps, shows_curves}
@@ -33,7 +33,7 @@ returns c =
     let n = c.args.frame in
     let p = c.args.period in
     let j = c.args.jitter in
-    let fits : framed n ≡ true = and_from _ _ (le-leb 1 n (omega arith)) (le-leb n longest (omega arith)) in
+    let fits : framed n ≡ true = search rules in
     let on-time : timed p j ≡ true = and_from _ _ (le-leb 1 p (omega arith)) (and_from _ _ (le-leb p longest_period (omega arith)) (le-leb j longest_jitter (omega arith))) in
     ap Ok (shows_curves (c.of.ensures (clocked_most p j) (λ k r h gives. search rules)) (c.of-2.ensures (clocked_least p j) (λ k r h gives. search rules)))
     ∙ sym (cond-true _ _ _ fits ∙ cond-true _ _ _ on-time)

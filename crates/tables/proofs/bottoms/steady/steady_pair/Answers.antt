@@ -1,7 +1,7 @@
 use Rattle.std.proofs.Common.{◌≡◌, ◌*◌, true, leb, Ok, sym, ap, ◌∙◌, arith, rules}
-use Rattle.std.proofs.lemmas.Bool.{le-leb, cond-true, and_from}
+use Rattle.std.proofs.lemmas.Bool.{le-leb, cond-true}
 use Rattle.tables.specs.Bottoms.{line}
-use Rattle.tables.specs.Limits.{longest, limit}
+use Rattle.tables.specs.Limits.{limit}
 use Rattle.tables.specs.Makes.{framed}
 use Rattle.tables.proofs.Clocks.{line_graph}
 use Rattle.tables.proofs.Pairs.{shows_curves}
@@ -17,7 +17,7 @@ pub returns : goal.returns
 returns c =
     let long = c.in_ok-check_frame.ensures.within in
     let n = c.args.frame in
-    let fits : framed n ≡ true = and_from _ _ (le-leb 1 n (omega arith)) (le-leb n longest (omega arith)) in
+    let fits : framed n ≡ true = search rules in
     let wide = ap (λ n. n * c.args.frame) c.from.ensures in
     let low : leb (line c.args.count n) limit ≡ true = le-leb (line c.args.count n) limit (omega arith) in
     let shows = c.of-table.ensures (line c.args.count) (λ k r h gives. search rules) in
