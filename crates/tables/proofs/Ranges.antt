@@ -1,5 +1,5 @@
 -- The steps of the loops over a range, and what follows of their results.
-use Rattle.std.proofs.Common.{◌≡◌, ℕ, zero, suc, ◌+◌, ◌-◌, ◌<◌, ◌≤◌, min, max, Bool, true, false, not, is_some, Some, None, sym, refl, ap, ◌∙◌, ⊎_elim, le_of_suc-le-suc, eq-or-lt_of_le, add-one, arith}
+use Rattle.std.proofs.Common.{◌≡◌, ℕ, zero, suc, ◌+◌, ◌-◌, ◌<◌, ◌≤◌, min, max, Bool, true, false, not, Option, is_some, Some, None, MatchOption, sym, refl, ap, ◌∙◌, ⊎_elim, le_of_suc-le-suc, eq-or-lt_of_le, add-one, arith}
 use Rattle.std.proofs.lemmas.Bool.{cond_both, both_ways, cases_Bool, and_from, and_parts, and_cases}
 use Rattle.tables.specs.Ranges.{chosen, largest, smallest, seek, first, all, every}
 
@@ -58,23 +58,8 @@ smallest_ge (suc n) f m h = omega (arith, smallest_ge n f m (λ k l. h k (omega 
 abbrev pub Left : {X : Type 0} → (ℕ → ℕ → (ℕ → Bool) → X) → ℕ → ℕ → ℕ → (ℕ → Bool) → Type 0
 Left r a k b p = r a b p ≡ r k b p
 
--- one that returns at the first k that passes
+-- one that returns at the first k that does not pass
 module _ (k b : ℕ) (p : ℕ → Bool) where
-  pub first_skip : k ≤ b → p k ≡ false → first k b p ≡ first (k + 1) b p
-  unfolding first seek
-  first_skip h no-pass =
-      let e : suc b - k ≡ suc (suc b - (k + 1)) = omega arith in
-      rw (e, no-pass, add-one)
-
-  pub first_hit : k ≤ b → p k ≡ true → first k b p ≡ Some k
-  unfolding first seek
-  first_hit h pass = let e : suc b - k ≡ suc (suc b - (k + 1)) = omega arith in rw (e, pass)
-
-  pub first_out : b < k → first k b p ≡ None
-  unfolding first seek
-  first_out h = let e : suc b - k ≡ 0 = omega arith in rw e
-
-  -- and one that returns at the first that does not
   pub every_skip : k ≤ b → p k ≡ true → every k b p ≡ every (k + 1) b p
   unfolding every all
   every_skip h pass =
@@ -88,6 +73,29 @@ module _ (k b : ℕ) (p : ℕ → Bool) where
   pub every_out : b < k → every k b p ≡ true
   unfolding every all
   every_out h = let e : suc b - k ≡ 0 = omega arith in rw e
+
+-- what a search from a to b found is the first that passes
+module _ (p : ℕ → Bool) where
+  seek_none : (k n : ℕ) → ((j : ℕ) → k ≤ j → j < k + n → p j ≡ false) → seek k n p ≡ None
+  unfolding seek
+  seek_none k zero h = refl
+  seek_none k (suc n) h = rw (h k (omega arith) (omega arith)) (seek_none (suc k) n (λ j low high. h j (omega arith) (omega arith)))
+
+  seek_hit : (k n j : ℕ) → k ≤ j → j < k + n → p j ≡ true → ((i : ℕ) → k ≤ i → i < j → p i ≡ false) → seek k n p ≡ Some j
+  unfolding seek
+  seek_hit k zero j low high pass h = absurd (omega arith)
+  seek_hit k (suc n) j low high pass h =
+      ⊎_elim
+      (λ (e : k ≡ j). rw (ap p e ∙ pass) (ap Some e))
+      (λ (l : k < j). rw (h k (omega arith) l) (seek_hit (suc k) n j l (omega arith) pass (λ i a b. h i (omega arith) b)))
+      (eq-or-lt_of_le low)
+
+  pub first_is : (a b : ℕ) (o : Option ℕ)
+      → MatchOption o ((k : ℕ) → a ≤ k → k < b + 1 → k ≤ b → p k ≡ false) (λ i. (a ≤ i) × (i < b + 1) × (i ≤ b → p i ≡ true) × ((k : ℕ) → a ≤ k → k < i → k ≤ b → p k ≡ false))
+      → o ≡ first a b p
+  unfolding first
+  first_is a b None h = sym (seek_none a (suc b - a) (λ j low high. h j low (omega arith) (omega arith)))
+  first_is a b (Some i) (low, high, pass, h) = sym (seek_hit a (suc b - a) i low (omega arith) (pass (omega arith)) (λ j at under. h j at under (omega arith)))
 
 -- what the answers say of the range
 module _ (p : ℕ → Bool) where

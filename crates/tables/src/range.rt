@@ -1,7 +1,6 @@
 // The largest and the smallest of a range of values, and tests over a range of numbers. Both ends of a
-// range belong to it. A chain over a range says too little of its items to prove these, so each is a loop. What
-// a closure is asked stands at each function, since it is about the range of that call.
-ghost use Rattle.std.specs.Prelude.{◌≡◌, ℕ, ◌≤◌, Bool, IfSome};
+// range belong to it. What a closure is asked stands at each function, since it is about the range of that call.
+ghost use Rattle.std.specs.Prelude.{◌≡◌, ℕ, ◌+◌, ◌^◌, ◌<◌, ◌≤◌, Bool, IfSome};
 ghost use Rattle.tables.specs.Ranges.{Gives, chosen, largest, smallest, first, every};
 
 // The values from 0 to last, two made one by a choice at a time, from the first on.
@@ -35,21 +34,22 @@ pub fn smallest<F: Fn(usize) -> u32>(last: usize, value: F) -> u32
 
 // The first number that passes, from start to last.
 pub fn first<F: Fn(usize) -> bool>(start: usize, last: usize, passes: F) -> Option<usize>
-    requires { (k : ℕ) → start ≤ k → k ≤ last → F.pre passes k }
+    requires fits { last + 1 < 2 ^ 64 }
+    requires callable { (k : ℕ) → start ≤ k → k ≤ last → F.pre passes k }
     ensures value { (p : ℕ → Bool) → Gives (F.post passes) last p → result ≡ first start last p }
     ensures within { IfSome result (λ k. (start ≤ k) × (k ≤ last)) }
 {
-    for k in start..=last {
-        if passes(k) {
-            return Some(k);
-        }
-    }
-    None
+    (start..last + 1).find(
+        |k|
+            requires { F.pre passes k.now }
+        { passes(*k) },
+    )
 }
 
 // Whether each number passes, from start to last.
 pub fn every<F: Fn(usize) -> bool>(start: usize, last: usize, passes: F) -> bool
-    requires { (k : ℕ) → start ≤ k → k ≤ last → F.pre passes k }
+    requires fits { last + 1 < 2 ^ 64 }
+    requires callable { (k : ℕ) → start ≤ k → k ≤ last → F.pre passes k }
     ensures { (p : ℕ → Bool) → Gives (F.post passes) last p → result ≡ every start last p }
 {
     first(
