@@ -1,5 +1,11 @@
 -- The steps of the loops over a range, and what follows of their results.
-use Rattle.std.proofs.Common.{◌≡◌, ℕ, zero, suc, ◌+◌, ◌-◌, ◌<◌, ◌≤◌, min, max, Bool, true, false, not, Option, is_some, Some, None, MatchOption, sym, refl, ap, ◌∙◌, ⊎_elim, le_of_suc-le-suc, eq-or-lt_of_le, add-one, arith}
+use Rattle.std.proofs.Common.{◌≡◌, ℕ, zero, suc, ◌+◌, ◌-◌, ◌<◌, ◌≤◌, min, max, Bool, true, false, not, Option, is_some, Some, None, MatchOption, sym, refl, ap, ◌∙◌, ⊎_elim, le_of_suc-le-suc, eq-or-lt_of_le, add-one, arith, List, [], ◌∷◌, subst}
+use Rattle.std.specs.Fn.{Called}
+use Rattle.std.proofs.iter.Yields.{nat_range_steps}
+use Rattle.std.specs.Iterator.{Yields, FoldTurn}
+use Rattle.std.specs.List.{FoldsTo}
+use Rattle.std.specs.declared.ops.Range.{Range}
+use denote.Param.Members.{Mut}
 use Rattle.std.proofs.lemmas.Bool.{cond_both, both_ways, cases_Bool, and_from, and_parts, and_cases}
 use Rattle.tables.specs.Ranges.{chosen, largest, smallest, seek, first, all, every}
 
@@ -21,6 +27,20 @@ pub chosen_step : (op : ℕ → ℕ → ℕ) (k : ℕ) (f : ℕ → ℕ) → 1 �
 unfolding chosen
 chosen_step op zero f h = absurd (omega arith)
 chosen_step op (suc k) f h = let e : suc k - 1 ≡ k = omega arith in rw e
+
+-- a fold over a range that ends at last, by a closure that keeps what it captured
+module _ {F : Type 0} (g : Mut F (ℕ × (ℕ × Unit {0})) ℕ) (f : F) (op : ℕ → ℕ → ℕ) (h : ℕ → ℕ) (last : ℕ) (turn : (x k r : ℕ) (q : F) → k ≤ last → Called g f (x, (k, tt)) r q → (q ≡ f) × (r ≡ op x (h k))) where
+  pub folded : (xs : List ℕ) (s t u : Range ℕ) (best r : ℕ) (q : F) → s.end ≡ last + 1 → 1 ≤ s.start → s.start ≤ s.end → best ≡ chosen op (s.start - 1) h
+      → Yields nat_range_steps s xs t → nat_range_steps t None u → FoldsTo (FoldTurn g) (f, best) xs (q, r) → r ≡ chosen op last h
+  folded [] s t u best r q end some low is y stop run =
+      let e : s.start - 1 ≡ last = omega (arith, stop.1.0, ap (λ k. k.start) y, ap (λ k. k.end) y) in
+      sym (ap (λ p. p.1) run) ∙ is ∙ ap (λ m. chosen op m h) e
+  folded (x ∷ xs) s t u best r q end some low is (j, step, y) stop (p, called, run) =
+      let (kept, made) = turn best x p.1 p.0 (omega (arith, step.1.0, step.1.1)) called in
+      let e : j.start - 1 ≡ s.start = omega (arith, step.1.2) in
+      folded xs j t u p.1 r q (step.0 ∙ end) (omega (arith, step.1.2)) (omega (arith, step.0, step.1.0, step.1.2))
+      (made ∙ (λ i. op (is i) (h (step.1.1 i))) ∙ sym (chosen_step op s.start h some) ∙ sym (ap (λ m. chosen op m h) e))
+      y stop (subst (λ f. FoldsTo (FoldTurn g) (f, p.1) xs (q, r)) kept run)
 
 pub chosen_largest : (n : ℕ) (f : ℕ → ℕ) → chosen max n f ≡ largest n f
 unfolding chosen largest

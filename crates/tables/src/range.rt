@@ -5,20 +5,24 @@ ghost use Rattle.tables.specs.Ranges.{Gives, chosen, largest, smallest, first, e
 
 // The values from 0 to last, two made one by a choice at a time, from the first on.
 fn chosen<F: Fn(usize) -> u32, C: Fn(u32, u32) -> u32>(last: usize, value: F, choice: C) -> u32
+    requires fits { last + 1 < 2 ^ 64 }
     requires callable { (k : ℕ) → k ≤ last → F.pre value k }
     requires free { C.IsAlwaysCallable choice }
     ensures { (f : ℕ → ℕ) (op : ℕ → ℕ → ℕ) → Gives (F.post value) last f → ((x y r : ℕ) → C.post choice x y r → r ≡ op x y) → result ≡ chosen op last f }
 {
-    let mut best = value(0);
-    for k in 1..=last {
-        best = choice(best, value(k));
-    }
-    best
+    (1..last + 1).fold(
+        value(0),
+        |best, k|
+            requires callable { F.pre value k }
+            requires free { C.IsAlwaysCallable choice }
+        { choice(best, value(k)) },
+    )
 }
 
 // The largest value, from 0 to last.
 pub fn largest<F: Fn(usize) -> u32>(last: usize, value: F) -> u32
-    requires { (k : ℕ) → k ≤ last → F.pre value k }
+    requires fits { last + 1 < 2 ^ 64 }
+    requires callable { (k : ℕ) → k ≤ last → F.pre value k }
     ensures { (f : ℕ → ℕ) → Gives (F.post value) last f → result ≡ largest last f }
 {
     chosen(last, value, u32::max)
@@ -26,7 +30,8 @@ pub fn largest<F: Fn(usize) -> u32>(last: usize, value: F) -> u32
 
 // The smallest value, from 0 to last.
 pub fn smallest<F: Fn(usize) -> u32>(last: usize, value: F) -> u32
-    requires { (k : ℕ) → k ≤ last → F.pre value k }
+    requires fits { last + 1 < 2 ^ 64 }
+    requires callable { (k : ℕ) → k ≤ last → F.pre value k }
     ensures { (f : ℕ → ℕ) → Gives (F.post value) last f → result ≡ smallest last f }
 {
     chosen(last, value, u32::min)
