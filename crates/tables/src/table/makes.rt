@@ -16,7 +16,6 @@ fn front<F: Fn(usize) -> u32>(frame: usize, fill: F) -> [u32; 129]
     array::from_fn(
         |k|
             requires { k ≤ frame → F.pre fill k }
-            ensures { k ≤ frame → F.post fill k result }
         { if k <= frame { fill(k) } else { 0 } },
     )
 }

@@ -29,7 +29,6 @@ invariant_of-result c =
 
 pub returns : goal.returns
 returns c =
-    let long = c.in_ok-check_frame.ensures.within in
     let n = c.args.frame in
     let p = c.args.period in
     let j = c.args.jitter in

@@ -15,7 +15,6 @@ of-table-requires-clause-graph c =
 
 pub returns : goal.returns
 returns c =
-    let long = c.in_ok-check_frame.ensures.within in
     let n = c.args.frame in
     let fits : framed n ≡ true = search rules in
     let wide = ap (λ n. n * c.args.frame) c.from.ensures in
