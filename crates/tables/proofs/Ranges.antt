@@ -1,4 +1,4 @@
--- The steps of the loops over a range, and what follows of their results.
+-- The steps of loops and chains over a range, and what follows of their results.
 use Rattle.std.proofs.Common.{◌≡◌, ℕ, zero, suc, ◌+◌, ◌-◌, ◌<◌, ◌≤◌, min, max, Bool, true, false, not, Option, is_some, Some, None, MatchOption, sym, refl, ap, ◌∙◌, ⊎_elim, le_of_suc-le-suc, eq-or-lt_of_le, add-one, arith, List, [], ◌∷◌, subst}
 use Rattle.std.specs.Fn.{Called}
 use Rattle.std.proofs.iter.Yields.{nat_range_steps}
