@@ -1,5 +1,11 @@
--- The steps of the loops over a range, and what follows of their results.
-use Rattle.std.proofs.Common.{◌≡◌, ℕ, zero, suc, ◌+◌, ◌-◌, ◌<◌, ◌≤◌, min, max, Bool, true, false, is_some, Some, None, sym, refl, ap, ◌∙◌, ⊎_elim, le_of_suc-le-suc, eq-or-lt_of_le, add-one, arith}
+-- The steps of loops and chains over a range, and what follows of their results.
+use Rattle.std.proofs.Common.{◌≡◌, ℕ, zero, suc, ◌+◌, ◌-◌, ◌<◌, ◌≤◌, min, max, Bool, true, false, not, Option, is_some, Some, None, MatchOption, sym, refl, ap, ◌∙◌, ⊎_elim, le_of_suc-le-suc, eq-or-lt_of_le, add-one, arith, List, [], ◌∷◌, subst}
+use Rattle.std.specs.Fn.{Called}
+use Rattle.std.proofs.iter.Yields.{nat_range_steps}
+use Rattle.std.specs.Iterator.{Yields, FoldTurn}
+use Rattle.std.specs.List.{FoldsTo}
+use Rattle.std.specs.declared.ops.Range.{Range}
+use denote.Param.Members.{Mut}
 use Rattle.std.proofs.lemmas.Bool.{cond_both, both_ways, cases_Bool, and_from, and_parts, and_cases}
 use Rattle.tables.specs.Ranges.{chosen, largest, smallest, seek, first, all, every}
 
@@ -21,6 +27,20 @@ pub chosen_step : (op : ℕ → ℕ → ℕ) (k : ℕ) (f : ℕ → ℕ) → 1 �
 unfolding chosen
 chosen_step op zero f h = absurd (omega arith)
 chosen_step op (suc k) f h = let e : suc k - 1 ≡ k = omega arith in rw e
+
+-- a fold over a range that ends at last, by a closure that keeps what it captured
+module _ {F : Type 0} (g : Mut F (ℕ × (ℕ × Unit {0})) ℕ) (f : F) (op : ℕ → ℕ → ℕ) (h : ℕ → ℕ) (last : ℕ) (turn : (x k r : ℕ) (q : F) → k ≤ last → Called g f (x, (k, tt)) r q → (q ≡ f) × (r ≡ op x (h k))) where
+  pub folded : (xs : List ℕ) (s t u : Range ℕ) (best r : ℕ) (q : F) → s.end ≡ last + 1 → 1 ≤ s.start → s.start ≤ s.end → best ≡ chosen op (s.start - 1) h
+      → Yields nat_range_steps s xs t → nat_range_steps t None u → FoldsTo (FoldTurn g) (f, best) xs (q, r) → r ≡ chosen op last h
+  folded [] s t u best r q end some low is y stop run =
+      let e : s.start - 1 ≡ last = omega (arith, stop.1.0, ap (λ k. k.start) y, ap (λ k. k.end) y) in
+      sym (ap (λ p. p.1) run) ∙ is ∙ ap (λ m. chosen op m h) e
+  folded (x ∷ xs) s t u best r q end some low is (j, step, y) stop (p, called, run) =
+      let (kept, made) = turn best x p.1 p.0 (omega (arith, step.1.0, step.1.1)) called in
+      let e : j.start - 1 ≡ s.start = omega (arith, step.1.2) in
+      folded xs j t u p.1 r q (step.0 ∙ end) (omega (arith, step.1.2)) (omega (arith, step.0, step.1.0, step.1.2))
+      (made ∙ (λ i. op (is i) (h (step.1.1 i))) ∙ sym (chosen_step op s.start h some) ∙ sym (ap (λ m. chosen op m h) e))
+      y stop (subst (λ f. FoldsTo (FoldTurn g) (f, p.1) xs (q, r)) kept run)
 
 pub chosen_largest : (n : ℕ) (f : ℕ → ℕ) → chosen max n f ≡ largest n f
 unfolding chosen largest
@@ -58,23 +78,8 @@ smallest_ge (suc n) f m h = omega (arith, smallest_ge n f m (λ k l. h k (omega 
 abbrev pub Left : {X : Type 0} → (ℕ → ℕ → (ℕ → Bool) → X) → ℕ → ℕ → ℕ → (ℕ → Bool) → Type 0
 Left r a k b p = r a b p ≡ r k b p
 
--- one that returns at the first k that passes
+-- one that returns at the first k that does not pass
 module _ (k b : ℕ) (p : ℕ → Bool) where
-  pub first_skip : k ≤ b → p k ≡ false → first k b p ≡ first (k + 1) b p
-  unfolding first seek
-  first_skip h no-pass =
-      let e : suc b - k ≡ suc (suc b - (k + 1)) = omega arith in
-      rw (e, no-pass, add-one)
-
-  pub first_hit : k ≤ b → p k ≡ true → first k b p ≡ Some k
-  unfolding first seek
-  first_hit h pass = let e : suc b - k ≡ suc (suc b - (k + 1)) = omega arith in rw (e, pass)
-
-  pub first_out : b < k → first k b p ≡ None
-  unfolding first seek
-  first_out h = let e : suc b - k ≡ 0 = omega arith in rw e
-
-  -- and one that returns at the first that does not
   pub every_skip : k ≤ b → p k ≡ true → every k b p ≡ every (k + 1) b p
   unfolding every all
   every_skip h pass =
@@ -88,6 +93,29 @@ module _ (k b : ℕ) (p : ℕ → Bool) where
   pub every_out : b < k → every k b p ≡ true
   unfolding every all
   every_out h = let e : suc b - k ≡ 0 = omega arith in rw e
+
+-- what a search from a to b found is the first that passes
+module _ (p : ℕ → Bool) where
+  seek_none : (k n : ℕ) → ((j : ℕ) → k ≤ j → j < k + n → p j ≡ false) → seek k n p ≡ None
+  unfolding seek
+  seek_none k zero h = refl
+  seek_none k (suc n) h = rw (h k (omega arith) (omega arith)) (seek_none (suc k) n (λ j low high. h j (omega arith) (omega arith)))
+
+  seek_hit : (k n j : ℕ) → k ≤ j → j < k + n → p j ≡ true → ((i : ℕ) → k ≤ i → i < j → p i ≡ false) → seek k n p ≡ Some j
+  unfolding seek
+  seek_hit k zero j low high pass h = absurd (omega arith)
+  seek_hit k (suc n) j low high pass h =
+      ⊎_elim
+      (λ (e : k ≡ j). rw (ap p e ∙ pass) (ap Some e))
+      (λ (l : k < j). rw (h k (omega arith) l) (seek_hit (suc k) n j l (omega arith) pass (λ i a b. h i (omega arith) b)))
+      (eq-or-lt_of_le low)
+
+  pub first_is : (a b : ℕ) (o : Option ℕ)
+      → MatchOption o ((k : ℕ) → a ≤ k → k < b + 1 → k ≤ b → p k ≡ false) (λ i. (a ≤ i) × (i < b + 1) × (i ≤ b → p i ≡ true) × ((k : ℕ) → a ≤ k → k < i → k ≤ b → p k ≡ false))
+      → o ≡ first a b p
+  unfolding first
+  first_is a b None h = sym (seek_none a (suc b - a) (λ j low high. h j low (omega arith) (omega arith)))
+  first_is a b (Some i) (low, high, pass, h) = sym (seek_hit a (suc b - a) i low (omega arith) (pass (omega arith)) (λ j at under. h j at under (omega arith)))
 
 -- what the answers say of the range
 module _ (p : ℕ → Bool) where
@@ -153,6 +181,17 @@ module _ (p : ℕ → Bool) where
   pub every_each : (a b : ℕ) → every a b p ≡ true → (j : ℕ) → a ≤ j → j ≤ b → p j ≡ true
   unfolding every
   every_each a b h j low high = all_each a (suc b - a) h j low (omega arith)
+
+-- each passes where none is found that does not
+module _ (p : ℕ → Bool) where
+  seek_all : (k n : ℕ) → is_some (seek k n (λ j. not (p j))) ≡ not (all k n p)
+  unfolding seek all
+  seek_all k zero = refl
+  seek_all k (suc n) = ⊎_elim (λ (pass : p k ≡ true). rw pass (seek_all (suc k) n)) (λ (no-pass : p k ≡ false). rw no-pass refl) (cases_Bool (p k))
+
+  pub first_every : (a b : ℕ) → is_some (first a b (λ j. not (p j))) ≡ not (every a b p)
+  unfolding first every
+  first_every a b = seek_all a (suc b - a)
 
 -- where not each passes, some number of the range does not
 module _ (p : ℕ → Bool) where

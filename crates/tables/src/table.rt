@@ -6,7 +6,7 @@ mod checks;
 mod makes;
 mod reads;
 
-pub use checks::{count_at, is_lawful};
+pub use checks::{check_frame, count_at, is_lawful};
 
 /// An entry for each length from 1 to the frame; entry 0 is 0. The entries are laid out to twice the
 /// longest frame, so that reading a little past the frame takes no division.

@@ -6,7 +6,7 @@ ghost use Rattle.tables.specs.Tables.{curves};
 
 use crate::Refusal;
 use crate::pair::Pair;
-use crate::table::Table;
+use crate::table::{Table, check_frame};
 
 // The most of a clock: (length + jitter) / period, rounded up.
 fn most_at(period: u32, jitter: u32, length: usize) -> u32
@@ -28,9 +28,7 @@ fn most_at(period: u32, jitter: u32, length: usize) -> u32
 pub fn clocked_pair(frame: usize, period: u32, jitter: u32) -> Result<Pair, Refusal>
     ensures { answer curves result ≡ clocked_answer frame period jitter }
 {
-    if frame < 1 || frame > 64 {
-        return Err(Refusal::Frame);
-    }
+    check_frame(frame)?;
     if period < 1 || period > 10_000 || jitter > 10_000 {
         return Err(Refusal::Clock);
     }

@@ -8,7 +8,7 @@ ghost use Rattle.tables.specs.Tables.{curves, Shows};
 use crate::Refusal;
 use crate::combine::{growth_table, rise_table};
 use crate::pair::Pair;
-use crate::table::Table;
+use crate::table::{Table, check_frame};
 
 // The sum of the counts.
 fn total(counts: &[u32]) -> u64
@@ -60,10 +60,7 @@ impl Circle<'_> {
 pub fn slotted_pair(counts: &[u32]) -> Result<Pair, Refusal>
     ensures { answer curves result ≡ slotted_answer counts.now }
 {
-    let frame = counts.len();
-    if frame < 1 || frame > 64 {
-        return Err(Refusal::Frame);
-    }
+    check_frame(counts.len())?;
     if total(counts) > 1_000_000 {
         return Err(Refusal::Table);
     }

@@ -6,16 +6,14 @@ ghost use Rattle.tables.specs.Tables.{curves};
 
 use crate::Refusal;
 use crate::pair::Pair;
-use crate::table::Table;
+use crate::table::{Table, check_frame};
 
 /// The pair of a flow with the same count in every tick: `Frame` where the frame is not 1 to 64, `Table`
 /// where a frame brings more than the limit.
 pub fn steady_pair(frame: usize, count: u32) -> Result<Pair, Refusal>
     ensures { answer curves result ≡ steady_answer frame count }
 {
-    if frame < 1 || frame > 64 {
-        return Err(Refusal::Frame);
-    }
+    check_frame(frame)?;
     if u64::from(count) * frame as u64 > 1_000_000 {
         return Err(Refusal::Table);
     }

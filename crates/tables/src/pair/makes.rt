@@ -7,7 +7,7 @@ ghost use Rattle.tables.specs.Tables.{curves};
 use super::Pair;
 use crate::Refusal;
 use crate::range::every;
-use crate::table::{Table, count_at, is_lawful};
+use crate::table::{Table, check_frame, count_at, is_lawful};
 
 // Whether the least is nowhere above the most.
 #[tactic(auto, unfolding(crate::specs::Curves::nowhere_above))]
@@ -24,7 +24,8 @@ impl Pair {
         ensures { answer curves result ≡ pair_answer most.now least.now }
     {
         let frame = most.len();
-        if frame < 1 || frame > 64 || least.len() != frame {
+        check_frame(frame)?;
+        if least.len() != frame {
             return Err(Refusal::Frame);
         }
         if !is_lawful(most) || !is_lawful(least) || !is_under(most, least) {

@@ -1,12 +1,23 @@
-ghost use Rattle.std.specs.Prelude.{◌≡◌, ◌≤◌, length as count_of};
+ghost use Rattle.std.specs.Prelude.{◌≡◌, ◌≤◌, cond, OnOk, length as count_of};
 ghost use Rattle.tables.specs.Curves.{Graph, given, lawful};
 ghost use Rattle.tables.specs.Limits.{longest};
-ghost use Rattle.tables.specs.Makes.{answer, table_answer};
+ghost use Rattle.tables.specs.Makes.{answer, framed, table_answer};
 ghost use Rattle.tables.specs.Tables.{Shows, curve};
 
 use super::Table;
 use crate::Refusal;
 use crate::range::every;
+
+// `Frame` where a frame is not 1 to 64.
+pub fn check_frame(frame: usize) -> Result<(), Refusal>
+    ensures value { result ≡ cond (framed frame) (Ok tt) (Err Refusal.Frame) }
+    ensures within { OnOk result ((1 ≤ frame) × (frame ≤ longest)) }
+{
+    if frame < 1 || frame > 64 {
+        return Err(Refusal::Frame);
+    }
+    Ok(())
+}
 
 // The count at a length, of the counts from length 1 on.
 pub fn count_at(counts: &[u32], length: usize) -> u32
@@ -32,10 +43,7 @@ impl Table {
     pub fn new(counts: &[u32]) -> Result<Table, Refusal>
         ensures { answer curve result ≡ table_answer counts.now }
     {
-        let frame = counts.len();
-        if frame < 1 || frame > 64 {
-            return Err(Refusal::Frame);
-        }
+        check_frame(counts.len())?;
         if !is_lawful(counts) {
             return Err(Refusal::Table);
         }

@@ -5,19 +5,19 @@ ghost use Rattle.tables.specs.Ranges.{Gives};
 ghost use Rattle.tables.specs.Tables.{Shows};
 
 use super::Table;
+use std::array;
 
-// An array with the counts of the frame; the places past it are still 0. It is a loop, since a closure that
-// calls fill would have to call it at any length.
+// An array with the counts of the frame; the places past it are still 0.
 fn front<F: Fn(usize) -> u32>(frame: usize, fill: F) -> [u32; 129]
     requires few { frame ≤ longest }
     requires callable { (k : ℕ) → k ≤ frame → F.pre fill k }
     ensures { (f : ℕ → ℕ) → Gives (F.post fill) frame f → (k : ℕ) → k ≤ frame → slice_index result k ≡ f k }
 {
-    let mut entries = [0; 129];
-    for k in 0..=frame {
-        entries[k] = fill(k);
-    }
-    entries
+    array::from_fn(
+        |k|
+            requires { k ≤ frame → F.pre fill k }
+        { if k <= frame { fill(k) } else { 0 } },
+    )
 }
 
 impl Table {

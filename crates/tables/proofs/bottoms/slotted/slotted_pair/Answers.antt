@@ -6,4 +6,4 @@ pub returns-then-total-gt1000000 : goal.returns-then-total-gt1000000
 returns-then-total-gt1000000 c = let all = sum_all c.args.counts.now in search rules
 
 pub invariant_of-pair : goal.invariant_of-pair
-invariant_of-pair c = record { some = omega arith; few = omega arith; low = omega (arith, c.total.ensures, sum_all c.args.counts.now) }
+invariant_of-pair c = let long = c.in_ok-check_frame.ensures.within in record { some = omega arith; few = omega arith; low = omega (arith, c.total.ensures, sum_all c.args.counts.now) }

@@ -1,7 +1,6 @@
 use Rattle.std.proofs.Common.{◌≡◌, true, ◌&&◌, eqb, length, Ok, refl, sym, ap, ◌∙◌, arith, rules}
-use Rattle.std.proofs.lemmas.Bool.{le-leb, eq-eqb, cond-true, and_from}
+use Rattle.std.proofs.lemmas.Bool.{eq-eqb, cond-true, and_from}
 use Rattle.tables.specs.Curves.{given}
-use Rattle.tables.specs.Limits.{longest}
 use Rattle.tables.specs.Makes.{framed, lawful_pair}
 use Rattle.tables.proofs.Curves.{lawful_graph}
 use Rattle.tables.proofs.Pairs.{keeps, shows_curves, under_each}
@@ -29,6 +28,6 @@ returns c =
     let n = length xs in
     let same : length ys ≡ length xs = search rules in
     let fits : (framed n && eqb (length ys) n) ≡ true =
-    and_from _ _ (and_from _ _ (le-leb 1 n (omega arith)) (le-leb n longest (omega arith))) (eq-eqb (length ys) n (omega arith)) in
+    and_from (framed n) _ (search rules) (eq-eqb (length ys) n (omega arith)) in
     let law : lawful_pair xs ys ≡ true = search (rules, and_from) in
     ap Ok (shows_curves c.given.ensures (shows_to same (λ k _. refl) c.given-2.ensures)) ∙ sym (cond-true _ _ _ fits ∙ cond-true _ _ _ law)

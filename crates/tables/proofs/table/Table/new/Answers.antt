@@ -1,7 +1,6 @@
-use Rattle.std.proofs.Common.{◌≡◌, true, length, Ok, sym, ap, ◌∙◌, arith, rules}
-use Rattle.std.proofs.lemmas.Bool.{le-leb, cond-true, and_from}
+use Rattle.std.proofs.Common.{◌≡◌, true, length, Ok, sym, ap, ◌∙◌, rules}
+use Rattle.std.proofs.lemmas.Bool.{cond-true}
 use Rattle.tables.specs.Curves.{given, lawful}
-use Rattle.tables.specs.Limits.{longest}
 use Rattle.tables.specs.Makes.{framed}
 use Rattle.tables.proofs.Curves.{lawful_graph}
 use Rattle.tables.proofs.Tables.{shows_curve}
@@ -14,6 +13,6 @@ pub returns : goal.returns
 returns c =
     let xs = c.args.counts.now in
     let n = length xs in
-    let fits : framed n ≡ true = and_from _ _ (le-leb 1 n (omega arith)) (le-leb n longest (omega arith)) in
+    let fits : framed n ≡ true = search rules in
     let law : lawful n (given xs) ≡ true = search rules in
     ap Ok (shows_curve c.given.ensures) ∙ sym (cond-true _ _ _ fits ∙ cond-true _ _ _ law)
