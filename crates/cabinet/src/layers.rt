@@ -13,6 +13,9 @@ pub(crate) type Traffic<'a, C> = Join<
     Join<Bottom<Clocked>, Bottom<Recorded<'a>>>,
 >;
 
+// The bus over all its traffic.
+pub(crate) type Bus<'a, C> = Server<Traffic<'a, C>, Bottom<Slotted>>;
+
 // Every table, and every round of the bus, is this long.
 pub(crate) const FRAME: usize = 32;
 

@@ -94,6 +94,7 @@ impl<'a> Source<'a> {
         ensures sent { OnOk result (length messages.new.items ≡ length messages.old.items + slice_index self.old.row.now tick) }
         ensures row { self.new.row ≡ self.old.row }
     {
+        // A counted repeat: a push that can fail is repeated, and there is no list to walk.
         for _ in 0..self.row[tick] {
             self.last = self.last.wrapping_add(1);
             messages.push(Message {
