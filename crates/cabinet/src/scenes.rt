@@ -1,11 +1,10 @@
 // The cabinet in one mode of its chargers.
 ghost use Rattle.std.specs.Prelude.{◌≡◌, ◌≤◌, length, map, take, IfSome, IfOk};
-ghost use Rattle.std.specs.List.{zip};
+ghost use Rattle.std.specs.List.{All as Each, zip};
 ghost use Rattle.flows.specs.Views.{All, Idle};
-ghost use Rattle.cabinet.specs.Fours.{Each};
 
 use crate::delays::{longest, ticks_of};
-use crate::layers::{Bus, FRAME, Four, bus, controller, traffic};
+use crate::layers::{Bus, FRAME, bus, controller, traffic};
 use crate::messages::{Message, NO_MESSAGE, Sent, line_up};
 use crate::sheets::{LONG, Sheet};
 use crate::watches::{Seen, TICKS, carry_all, watch};
@@ -73,7 +72,7 @@ fn dated(heap: Global, messages: &[Message], since: &[usize]) -> Result<Vec<Sent
 
 // The bus over its traffic from power-on: nothing was drawn yet.
 fn loaded_bus<'a, C: Flow + Copy + Drop>(
-    chargers: &Four<C>,
+    chargers: &[C; 4],
     sheet: &'a Sheet,
     tables: &Tables,
 ) -> Bus<'a, C>
@@ -86,7 +85,7 @@ fn loaded_bus<'a, C: Flow + Copy + Drop>(
 // Runs the cabinet with cycle messages, and again with the ticks of their arrival at the bus.
 pub(crate) fn play<C: Flow + Copy + Drop>(
     heap: Global,
-    chargers: &Four<C>,
+    chargers: &[C; 4],
     sheet: &Sheet,
     tables: &Tables,
     log: &mut Log,
