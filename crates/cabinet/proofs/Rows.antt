@@ -1,14 +1,9 @@
 -- Rows of counts of a sheet.
-use Rattle.std.proofs.Common.{◌≡◌, ℕ, ◌+◌, ◌<◌, List, [], ◌∷◌, length, get_or, map, take, sym, ap, ◌∙◌, arith}
+use Rattle.std.proofs.Common.{◌≡◌, ℕ, ◌+◌, ◌<◌, List, [], length, get_or, map, take, sym, ap, ◌∙◌, arith}
 use Rattle.std.specs.List.{sum_by}
 use Rattle.std.proofs.lemmas.List.{get_or-map, length-map}
 use Rattle.std.proofs.lemmas.List.Sums.{sum_by_more}
 use Rattle.cabinet.specs.declared.messages.Source.{Source}
-use Rattle.cabinet.specs.declared.sheets.Sheet.{Sheet}
-
--- in the order of the bus
-abbrev pub rows_of : Sheet → List (List ℕ)
-rows_of s = s.door ∷ s.temperature ∷ s.packs.first ∷ s.packs.second ∷ s.packs.third ∷ s.packs.fourth ∷ []
 
 -- what the rows say of tick t + 1 together
 abbrev pub sum_at : ℕ → List (List ℕ) → ℕ

@@ -1,6 +1,6 @@
 -- How long messages take.
 use Rattle.std.specs.Prelude.{ℕ, ◌+◌, ◌-◌, max, Bool, true, false, ◌&&◌, List, [], ◌∷◌, map, replicate, codes, decimal, nat_lt, slice_index}
-use Rattle.std.specs.List.{concat, enumerate_from, flat_map, fold, zip}
+use Rattle.std.specs.List.{concat, enumerate_from, flat_map, fold, sum_by, zip}
 use Rattle.cabinet.specs.declared.messages.Message.{Message}
 use Rattle.cabinet.specs.declared.messages.Sender.{Sender}
 use Rattle.cabinet.specs.declared.messages.Sent.{Sent}
@@ -13,7 +13,7 @@ ticks_of counts = flat_map (λ (p : ℕ × ℕ). replicate p.1 (p.0 + 1)) (enume
 
 -- what all senders together hand over in tick t + 1
 abbrev pub handed : Sheet → ℕ → ℕ
-handed s t = slice_index s.door t + slice_index s.temperature t + slice_index s.packs.first t + slice_index s.packs.second t + slice_index s.packs.third t + slice_index s.packs.fourth t
+handed s t = slice_index s.door t + slice_index s.temperature t + sum_by (λ row. slice_index row t) s.packs
 
 -- the longest time from a message's coming in to its going out, and 0 where there is none
 abbrev pub longest_stay : List ℕ → List ℕ → ℕ

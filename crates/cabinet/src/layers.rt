@@ -1,7 +1,7 @@
 // The stages of the cabinet, from the chargers up to the shaper.
 ghost use Rattle.std.specs.Prelude.{◌≡◌, [], IfSome};
+ghost use Rattle.std.specs.List.{All as Each};
 ghost use Rattle.flows.specs.Views.{All, Idle};
-ghost use Rattle.cabinet.specs.Fours.{Each};
 
 use flows::{Bottom, Clocked, Flow, Recorded, Slotted, Steady};
 use stages::{Join, Server};
@@ -13,31 +13,11 @@ pub(crate) type Traffic<'a, C> = Join<
     Join<Bottom<Clocked>, Bottom<Recorded<'a>>>,
 >;
 
+// The bus over all its traffic.
+pub(crate) type Bus<'a, C> = Server<Traffic<'a, C>, Bottom<Slotted>>;
+
 // Every table, and every round of the bus, is this long.
 pub(crate) const FRAME: usize = 32;
-
-// One of a kind for each of the four chargers.
-#[derive(Clone, Copy)]
-pub(crate) struct Four<T> {
-    pub first: T,
-    pub second: T,
-    pub third: T,
-    pub fourth: T,
-}
-
-impl<T: Copy> Four<T> {
-    // The same for each.
-    pub(crate) fn alike(each: T) -> Four<T>
-        ensures { result ≡ record { first = each; second = each; third = each; fourth = each } }
-    {
-        Four {
-            first: each,
-            second: each,
-            third: each,
-            fourth: each,
-        }
-    }
-}
 
 // A charger: one cycle in each round, up to two ticks early, and the first at power-on.
 pub(crate) fn charger() -> Bottom<Clocked>
@@ -72,15 +52,15 @@ pub(crate) fn others<'a>(
 
 // All that the bus carries: the four chargers, and behind them the others.
 pub(crate) fn traffic<'a, C: Flow + Copy + Drop>(
-    chargers: &Four<C>,
+    chargers: &[C; 4],
     door: &'a [u32],
     most: &Table,
 ) -> Traffic<'a, C>
     requires { Each (λ c. All Idle (C.Flow.views c)) chargers.now }
     ensures { All Idle (⟦<Traffic<'a, C> as Flow>⟧.views result) }
 {
-    let low = Join::build(chargers.first, chargers.second);
-    let high = Join::build(chargers.third, chargers.fourth);
+    let low = Join::build(chargers[0], chargers[1]);
+    let high = Join::build(chargers[2], chargers[3]);
     Join::build(Join::build(low, high), others(door, most))
 }
 

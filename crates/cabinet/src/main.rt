@@ -5,7 +5,7 @@
 use anyhow::{Context, Result};
 use fits::Promised;
 use flows::Recorded;
-use layers::{Four, bus, charger, charger_most, controller, temperature, traffic};
+use layers::{bus, charger, charger_most, controller, temperature, traffic};
 use runs::{Fitted, Log};
 use scenes::{Tables, door_and_shaping, play};
 use sheets::{LONG, Row, Sheet, beats, draws};
@@ -22,7 +22,7 @@ mod watches;
 
 // Fits the cabinet, and prints its bounds.
 fn fit(rt: &HostRuntime, tables: &Tables, door: &Row) -> Result<Promised> {
-    let below = bus(traffic(&Four::alike(charger()), door, &tables.door));
+    let below = bus(traffic(&[charger(); 4], door, &tables.door));
     let fitted = Fitted::new(Shaper::build(controller(below), tables.shaping));
     let promised = fits::promises(&fitted).context(
         "a stage is closed: the tables do not fit each other",
@@ -53,27 +53,20 @@ fn main(rt: HostRuntime) -> Result<()> {
     let bench = Sheet {
         door,
         temperature,
-        packs: Four {
-            first: beats(32, 4),
-            second: beats(32, 12),
-            third: beats(32, 20),
-            fourth: beats(32, 28),
-        },
+        packs: [4, 12, 20, 28].map(|offset| beats(32, offset)),
     };
-    let chargers = Four {
-        first: Recorded::build(&bench.packs.first, &most),
-        second: Recorded::build(&bench.packs.second, &most),
-        third: Recorded::build(&bench.packs.third, &most),
-        fourth: Recorded::build(&bench.packs.fourth, &most),
-    };
+    let chargers = bench
+        .packs
+        .each_ref()
+        .map(|pack| Recorded::build(pack, &most));
     let seen = play(rt.alloc(), &chargers, &bench, &tables, &mut log)?;
     story::bench(&rt, &seen, &promised)?;
 
     let mains = Sheet {
-        packs: Four::alike(draws(charger())),
+        packs: [draws(charger()); 4],
         ..bench
     };
-    let chargers = Four::alike(charger());
+    let chargers = [charger(); 4];
     let scene = play(rt.alloc(), &chargers, &mains, &tables, &mut log)?;
     story::mains(&rt, &scene, &promised)?;
     story::show_log(&rt, &log)?;

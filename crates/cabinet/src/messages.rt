@@ -5,12 +5,12 @@ ghost use Rattle.cabinet.specs.Times.{handed, cycle_counted, outlasts, message_t
 
 use crate::sheets::{LONG, Row, Sheet};
 use std::alloc::{AllocError, Global};
-use std::fmt;
+use std::{array, fmt};
 
 // Who sends a message.
 #[derive(Clone, Copy, PartialEq, Eq, Debug)]
 pub(crate) enum Sender {
-    Pack(u8),
+    Pack(usize),
     Temperature,
     Door,
 }
@@ -94,6 +94,7 @@ impl<'a> Source<'a> {
         ensures sent { OnOk result (length messages.new.items ≡ length messages.old.items + slice_index self.old.row.now tick) }
         ensures row { self.new.row ≡ self.old.row }
     {
+        // A counted repeat: a push that can fail is repeated, and there is no list to walk.
         for _ in 0..self.row[tick] {
             self.last = self.last.wrapping_add(1);
             messages.push(Message {
@@ -109,19 +110,19 @@ impl<'a> Source<'a> {
 pub(crate) fn line_up(heap: Global, sheet: &Sheet) -> Result<Vec<Message>, AllocError>
     ensures { IfOk result (λ v. (n : ℕ) → n ≡ 352 → length v.items ≡ sum (handed sheet.now) n) }
 {
-    let mut sources = [
-        Source::new(Sender::Door, &sheet.door),
-        Source::new(Sender::Temperature, &sheet.temperature),
-        Source::new(Sender::Pack(1), &sheet.packs.first),
-        Source::new(Sender::Pack(2), &sheet.packs.second),
-        Source::new(Sender::Pack(3), &sheet.packs.third),
-        Source::new(Sender::Pack(4), &sheet.packs.fourth),
-    ];
+    let mut door = Source::new(Sender::Door, &sheet.door);
+    let mut temperature = Source::new(Sender::Temperature, &sheet.temperature);
+    let mut packs: [Source; 4] = array::from_fn(|k| Source::new(
+        Sender::Pack(k + 1),
+        &sheet.packs[k],
+    ));
     let mut messages = Vec::new(heap);
     // Tick by tick, since each sender has a row of its own.
     for tick in 0..LONG {
-        for source in sources.iter_mut() {
-            source.send(&mut messages, tick)?;
+        door.send(&mut messages, tick)?;
+        temperature.send(&mut messages, tick)?;
+        for pack in packs.iter_mut() {
+            pack.send(&mut messages, tick)?;
         }
     }
     Ok(messages)

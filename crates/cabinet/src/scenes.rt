@@ -1,11 +1,10 @@
 // The cabinet in one mode of its chargers.
 ghost use Rattle.std.specs.Prelude.{◌≡◌, ◌≤◌, length, map, take, IfSome, IfOk};
-ghost use Rattle.std.specs.List.{zip};
+ghost use Rattle.std.specs.List.{All as Each, zip};
 ghost use Rattle.flows.specs.Views.{All, Idle};
-ghost use Rattle.cabinet.specs.Fours.{Each};
 
 use crate::delays::{longest, ticks_of};
-use crate::layers::{FRAME, Four, bus, controller, traffic};
+use crate::layers::{Bus, FRAME, bus, controller, traffic};
 use crate::messages::{Message, NO_MESSAGE, Sent, line_up};
 use crate::sheets::{LONG, Sheet};
 use crate::watches::{Seen, TICKS, carry_all, watch};
@@ -71,10 +70,22 @@ fn dated(heap: Global, messages: &[Message], since: &[usize]) -> Result<Vec<Sent
         .collect(heap)
 }
 
+// The bus over its traffic from power-on: nothing was drawn yet.
+fn loaded_bus<'a, C: Flow + Copy + Drop>(
+    chargers: &[C; 4],
+    sheet: &'a Sheet,
+    tables: &Tables,
+) -> Bus<'a, C>
+    requires { Each (λ c. All Idle (C.Flow.views c)) chargers.now }
+    ensures fresh { All Idle (⟦<Bus<'a, C> as Flow>⟧.views result) }
+{
+    bus(traffic(chargers, &sheet.door, &tables.door))
+}
+
 // Runs the cabinet with cycle messages, and again with the ticks of their arrival at the bus.
 pub(crate) fn play<C: Flow + Copy + Drop>(
     heap: Global,
-    chargers: &Four<C>,
+    chargers: &[C; 4],
     sheet: &Sheet,
     tables: &Tables,
     log: &mut Log,
@@ -82,20 +93,20 @@ pub(crate) fn play<C: Flow + Copy + Drop>(
     requires { Each (λ c. All Idle (C.Flow.views c)) chargers.now }
     ensures { IfOk result (λ s. length s.sent.items ≤ 352) }
 {
-    let at_bus = watch(heap, bus(traffic(chargers, &sheet.door, &tables.door)), log)?;
+    let at_bus = watch(heap, loaded_bus(chargers, sheet, tables), log)?;
     let came = ticks_of(heap, log.arrived)?;
 
-    let below = bus(traffic(chargers, &sheet.door, &tables.door));
+    let below = loaded_bus(chargers, sheet, tables);
     let at_controller = watch(heap, controller(below), log)?;
 
     let messages = line_up(heap, sheet)?;
-    let below = bus(traffic(chargers, &sheet.door, &tables.door));
+    let below = loaded_bus(chargers, sheet, tables);
     let cabinet = Shaper::build(controller(below), tables.shaping);
     let mut slots = [NO_MESSAGE; 16];
     let mut out = [NO_MESSAGE; LONG];
     let carried = carry_all(cabinet, log, &mut slots, &messages, &mut out);
 
-    let below = bus(traffic(chargers, &sheet.door, &tables.door));
+    let below = loaded_bus(chargers, sheet, tables);
     let cabinet = Shaper::build(controller(below), tables.shaping);
     let mut slots = [0; 16];
     let mut since = [0; LONG];

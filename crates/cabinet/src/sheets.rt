@@ -1,7 +1,6 @@
 // What each sender hands over, tick by tick.
 ghost use Rattle.std.specs.Prelude.{◌≡◌, ℕ, ◌%◌, ◌<◌, ◌≤◌, if◌then◌else◌, nat_eq, slice_index};
 
-use crate::layers::Four;
 use flows::Flow;
 
 // The ticks for which messages are lined up: a frame more than are run, so that a list never runs short.
@@ -15,7 +14,7 @@ pub(crate) type Row = [u32; LONG];
 pub(crate) struct Sheet {
     pub door: Row,
     pub temperature: Row,
-    pub packs: Four<Row>,
+    pub packs: [Row; 4],
 }
 
 // What a flow hands over.
