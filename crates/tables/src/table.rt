@@ -9,7 +9,8 @@ mod reads;
 pub use checks::{check_frame, count_at, is_lawful};
 
 /// An entry for each length from 1 to the frame; entry 0 is 0. The entries are laid out to twice the
-/// longest frame, so that reading a little past the frame takes no division.
+/// longest frame, so that reading a little past the frame takes no division, and in fixed memory, so that no
+/// table can fail for want of it.
 #[derive(Clone, Copy)]
 pub struct Table {
     frame: usize,

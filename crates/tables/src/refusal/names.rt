@@ -21,6 +21,7 @@ impl fmt::Display for Refusal {
 }
 
 impl Refusal {
+    /// The number that users know it by.
     pub fn number(self) -> u8
         ensures { result ≡ number_of self }
     {
