@@ -54,7 +54,7 @@ pub fn next_line(chain: &Pair, block: &[u8]) -> Result<Line, Refusal>
     ensures { answer staged result ≡ next_answer (curves chain.now) block.now }
 {
     let block = Block::read(block)?;
-    if block.frame() as usize != chain.most.frame() {
+    if usize::from(block.frame()) != chain.most.frame() {
         return Err(Refusal::Frame);
     }
     match block {

@@ -50,6 +50,7 @@ pub(crate) fn others<'a>(
     Join::build(temperature(), Recorded::build(door, most))
 }
 
+// That nothing was drawn yet is asked from here on up, since no type tells it.
 // All that the bus carries: the four chargers, and behind them the others.
 pub(crate) fn traffic<'a, C: Flow + Copy + Drop>(
     chargers: &[C; 4],

@@ -70,7 +70,7 @@ fn dated(heap: Global, messages: &[Message], since: &[usize]) -> Result<Vec<Sent
         .collect(heap)
 }
 
-// The bus over its traffic from power-on: nothing was drawn yet.
+// The bus over its traffic from power-on: nothing was drawn yet, which no type tells.
 fn loaded_bus<'a, C: Flow + Copy + Drop>(
     chargers: &[C; 4],
     sheet: &'a Sheet,

@@ -27,6 +27,7 @@ pub(crate) struct Carried {
     pub refused: usize,
 }
 
+// Here too that nothing was drawn yet is asked, since no type tells it.
 // A run of a list of calls from power-on: what comes out is the first of what goes in, in order.
 fn run<P: Stage + Drop, M: Copy>(
     network: P,

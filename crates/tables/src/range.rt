@@ -1,5 +1,6 @@
 // The largest and the smallest of a range of values, and tests over a range of numbers. Both ends of a
-// range belong to it. What a closure is asked stands at each function, since it is about the range of that call.
+// range belong to it. What a closure is asked, and that the
+// range can be counted, stands at each function, since it is about that call.
 ghost use Rattle.std.specs.Prelude.{◌≡◌, ℕ, ◌+◌, ◌^◌, ◌<◌, ◌≤◌, Bool, IfSome};
 ghost use Rattle.tables.specs.Ranges.{Gives, chosen, largest, smallest, first, every};
 

@@ -46,6 +46,7 @@ impl<'a> Block<'a> {
         parted(block)
     }
 
+    /// The byte that says how long the frame is.
     pub fn frame(&self) -> u8
         ensures { result ≡ (block_read self.now).frame }
     {

@@ -8,6 +8,7 @@ ghost use Rattle.book.specs.Layout.{checked};
 
 use book::{analyse, check_sums};
 
+// The numbers of the kinds, as they stand in a book.
 pub const EVENTS: u8 = 1;
 
 pub const SERVICE: u8 = 2;

@@ -52,7 +52,7 @@ fn kind(rt: HostRuntime) {
         let blocks = [first, block(kind, 1, &[1], &[0])];
         assert_eq!(rt; refused(blocks.as_flattened()), Some((3, 2)));
     }
-    // The places that are 0, before the entries and behind them.
+    // The places that are 0, before the entries and behind them: again places are meant.
     let right = laid_out(EVENTS, 1, &[1], &[0]);
     for place in 2..8 {
         let mut wrong = right;

@@ -1,5 +1,4 @@
-ghost use Rattle.std.specs.Prelude.{◌≡◌, ℕ, refl};
-ghost use Rattle.flows.specs.Views.{look};
+ghost use Rattle.std.specs.Prelude.{◌≡◌, refl};
 ghost use Rattle.stages.specs.JoinViews.{join_figures};
 ghost use Rattle.stages.specs.Joins.{joining, join_view, join_below, join_views, JoinTicked};
 
@@ -22,6 +21,7 @@ impl<A: Flow + Drop, B: Flow + Drop> Join<A, B> {
         left + right
     }
 
+    // What is printed: a join has a pair and nothing else.
     fn own_bounds(&self) -> StageBounds
         ensures { result ≡ join_figures self.now.pair }
     {
@@ -55,6 +55,7 @@ impl<A: Flow + Drop, B: Flow + Drop> Flow for Join<A, B> {
     }
 
     fn bounds(&self, place: usize) -> Result<StageBounds, usize> {
+        // Three tests that each stage makes of its own fields; only looking below is shared.
         if place == 0 {
             return Ok(self.own_bounds());
         }

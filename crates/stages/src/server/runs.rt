@@ -27,6 +27,7 @@ impl<E: Flow + Drop, S: Flow + Drop> Flow for Server<E, S> {
     }
 
     fn bounds(&self, place: usize) -> Result<StageBounds, usize> {
+        // Three tests that each stage makes of its own fields; only looking below is shared.
         if place == 0 {
             return Ok(self.own_bounds());
         }
@@ -45,6 +46,7 @@ impl<E: Flow + Drop, S: Flow + Drop> Stage for Server<E, S> {
 
     ghost first = { λ _. refl };
 
+    // The same counts in each stage, of its own tick.
     fn step(&mut self) -> Counts {
         let served = self.serve();
         Counts {
@@ -58,6 +60,7 @@ impl<E: Flow + Drop, S: Flow + Drop> Stage for Server<E, S> {
         self.held()
     }
 
+    // Of the fields of this stage, and so in each.
     fn arriving(&self) -> u32 {
         match self.waiting {
             Some(_) => self.events.pair().most.first(),

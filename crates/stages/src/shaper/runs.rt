@@ -26,6 +26,7 @@ impl<E: Flow + Drop> Flow for Shaper<E> {
     }
 
     fn bounds(&self, place: usize) -> Result<StageBounds, usize> {
+        // Three tests that each stage makes of its own fields; only looking below is shared.
         if place == 0 {
             return Ok(self.own_bounds());
         }
@@ -43,6 +44,7 @@ impl<E: Flow + Drop> Stage for Shaper<E> {
 
     ghost first = { λ _. refl };
 
+    // The same counts in each stage, of its own tick.
     fn step(&mut self) -> Counts {
         let shaped = self.shape();
         Counts {
@@ -56,6 +58,7 @@ impl<E: Flow + Drop> Stage for Shaper<E> {
         self.held()
     }
 
+    // Of the fields of this stage, and so in each.
     fn arriving(&self) -> u32 {
         match self.waiting {
             Some(_) => self.events.pair().most.first(),

@@ -26,7 +26,7 @@ impl<E: Flow + Drop> Shaper<E> {
         let arrived = self.events.draw();
         let all = waiting + arrived;
         let allowed = room(self.shaping.entries(), &self.past);
-        let passed = allowed.min(all as u64) as u32;
+        let passed = allowed.min(u64::from(all)) as u32;
         self.waiting = Some(all - passed);
         put_first(&mut self.past, passed);
         Shaped { arrived, passed }

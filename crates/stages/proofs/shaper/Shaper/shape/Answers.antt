@@ -36,6 +36,18 @@ overflow_add-all g c =
     let is = c.draw-arrived.ensures.count in
     search rules
 
+pub overflow_cast-passed : goal.overflow_cast-passed
+overflow_cast-passed g c =
+    let s = c.args.self.now in
+    let e = g.E.Flow in
+    let few = first_small (e.pair s.events) (e.course s.events) (e.keeps s.events) in
+    let wait = held e s c.in-Some.waiting c.in-Some.is in
+    let small = s.small in
+    let is = c.draw-arrived.ensures.count in
+    let least = c.min-passed.ensures in
+    let wide = c.from.ensures in
+    search rules
+
 pub invariant_of-self-clause-fine : goal.invariant_of-self-clause-fine
 invariant_of-self-clause-fine g c =
     let s = c.args.self.now in
@@ -47,7 +59,7 @@ invariant_of-self-clause-fine g c =
     subst (λ past. All Fine (shaping_views E (Some (all - p)) past c.draw-arrived.new.self s.shaping s.bounds)) (sym c.put_first.ensures)
     (next_fine E s.events c.draw-arrived.new.self s.shaping s.bounds s.past w c.draw-arrived.result p
     record { count = a.count; next = a.next; same = a.same; views = a.views }
-    (omega (arith, c.min-passed.ensures, c.room-allowed.ensures, allowed s.shaping.frame (at s.shaping) c.entries.result.now s.past s.shaping.some c.entries.ensures))
+    (omega (arith, c.min-passed.ensures, c.from.ensures, c.room-allowed.ensures, allowed s.shaping.frame (at s.shaping) c.entries.result.now s.past s.shaping.some c.entries.ensures))
     (subst (λ o. All Fine (shaping_views E o s.past s.events s.shaping s.bounds)) c.in-Some.is s.fine))
 
 pub returns : goal.returns
@@ -59,6 +71,6 @@ returns g c =
       ticked =
           ticked g.E.Flow s _ c.in-Some.waiting c.draw-arrived.result c.min-passed.result c.in-Some.is refl c.put_first.ensures
           record { count = a.count; next = a.next; same = a.same; views = a.views }
-          (omega (arith, c.min-passed.ensures, c.room-allowed.ensures, allowed s.shaping.frame (at s.shaping) c.entries.result.now s.past s.shaping.some c.entries.ensures))
+          (omega (arith, c.min-passed.ensures, c.from.ensures, c.room-allowed.ensures, allowed s.shaping.frame (at s.shaping) c.entries.result.now s.past s.shaping.some c.entries.ensures))
           refl refl;
     }
