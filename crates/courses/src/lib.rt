@@ -1,7 +1,6 @@
 // The laws of courses and of the stages that pass them on: what the bounds of a server, a shaper and a join say of every run, up to any tick.
 #![tactic(auto)]
 
-// Each law answers 0, and not nothing, so that there is an answer that an edit can turn.
 mod bottom_flows;
 mod causal;
 mod joins;
