@@ -9,6 +9,7 @@ use flows::Flow;
 use tables::{Refusal, joined};
 
 impl<A: Flow + Drop, B: Flow + Drop> Join<A, B> {
+    // Two lines in each stage, since each asks the tables of its own flows in its own way.
     /// `Frame` where the frames differ, `Crowd` where the sum at the frame is above the limit.
     pub fn check(left: &A, right: &B) -> Result<(), Refusal>
         ensures { result ≡ verdict (join_fits A.Flow B.Flow left.now right.now) }

@@ -9,6 +9,7 @@ use flows::Flow;
 use tables::{Refusal, ServerBounds, server_bounds};
 
 impl<E: Flow + Drop, S: Flow + Drop> Server<E, S> {
+    // Two lines in each stage, since each asks the tables of its own flows in its own way.
     /// `Frame` where the frames differ, `Overload` where there is no settling length.
     pub fn check(events: &E, service: &S) -> Result<(), Refusal>
         ensures { result ≡ verdict (fits E.Flow S.Flow events.now service.now) }

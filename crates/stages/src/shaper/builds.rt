@@ -10,6 +10,7 @@ use flows::Flow;
 use tables::{Refusal, ShaperBounds, Table, shaper_bounds};
 
 impl<E: Flow + Drop> Shaper<E> {
+    // Two lines in each stage, since each asks the tables of its own flows in its own way.
     /// `Frame` where the frames differ, `Shape` where the shaping rule is broken, `Overload` where a frame
     /// brings more events than the table lets pass.
     pub fn check(events: &E, table: &Table) -> Result<(), Refusal>
