@@ -1,11 +1,12 @@
 // Prints the bounds of the chain that a book on standard input describes.
 #![tactic(auto)]
 
-ghost use Rattle.std.specs.Prelude.{◌≡◌, true, is_ok, OnOk};
+ghost use Rattle.std.specs.Prelude.{◌≡◌, ◌≤◌, true, length, is_ok, IfOk, OnOk};
 ghost use Rattle.book.specs.Books.{book_answer};
 
 use anyhow::anyhow;
 use book::{Answer, answer_of};
+use std::io;
 use std::io::Read;
 use std::process::ExitCode;
 
@@ -13,7 +14,23 @@ use std::process::ExitCode;
 mod tests;
 
 // The longest book, and one byte more, by which a longer one is known.
-const ENOUGH: u64 = 32 * 512 + 1;
+const ENOUGH: usize = 32 * 512 + 1;
+
+// Reads until the buffer is full or the input ends, and says how far. A counted loop, and a buffer that is lent:
+// what std reads to the end stands on the heap, where memory can run out before the book is looked at.
+fn fill(input: &mut impl Read, buffer: &mut [u8]) -> io::Result<usize>
+    ensures { IfOk result (λ n. n ≤ length buffer.old) }
+{
+    let mut filled = 0;
+    for _ in 0..=buffer.len() {
+        let got = input.read(&mut buffer[filled..])?;
+        if got == 0 {
+            break;
+        }
+        filled += got;
+    }
+    Ok(filled)
+}
 
 // Prints what comes of a book, and ends well only where it is accepted.
 fn print_answer(rt: &HostRuntime, book: &[u8]) -> anyhow::Result<()>
@@ -29,9 +46,9 @@ fn print_answer(rt: &HostRuntime, book: &[u8]) -> anyhow::Result<()>
 }
 
 fn run(rt: &HostRuntime) -> anyhow::Result<()> {
-    let mut book = Vec::new(rt.alloc());
-    rt.stdin().take(ENOUGH).read_to_end(&mut book)?;
-    print_answer(rt, &book)
+    let mut buffer = [0; ENOUGH];
+    let length = fill(&mut rt.stdin(), &mut buffer)?;
+    print_answer(rt, &buffer[..length])
 }
 
 // Ends with status 0 or 1, and writes nothing to standard error.

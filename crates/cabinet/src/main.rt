@@ -70,6 +70,6 @@ fn main(rt: HostRuntime) -> Result<()> {
     let scene = play(rt.alloc(), &chargers, &mains, &tables, &mut log)?;
     story::mains(&rt, &scene, &promised)?;
     story::show_log(&rt, &log)?;
-    story::show_messages(&rt, log.passed, &scene.sent)?;
-    story::compare(&rt, log.passed, &scene.sent, seen.way, timer)
+    story::show_messages(&rt, log.passed, scene.sent())?;
+    story::compare(&rt, log.passed, scene.sent(), seen.way, timer)
 }

@@ -10,7 +10,7 @@ use std::{array, fmt};
 // Who sends a message.
 #[derive(Clone, Copy, PartialEq, Eq, Debug)]
 pub(crate) enum Sender {
-    Pack(usize),
+    Pack(u8),
     Temperature,
     Door,
 }
@@ -113,7 +113,7 @@ pub(crate) fn line_up(heap: Global, sheet: &Sheet) -> Result<Vec<Message>, Alloc
     let mut door = Source::new(Sender::Door, &sheet.door);
     let mut temperature = Source::new(Sender::Temperature, &sheet.temperature);
     let mut packs: [Source; 4] = array::from_fn(|k| Source::new(
-        Sender::Pack(k + 1),
+        Sender::Pack(k as u8 + 1),
         &sheet.packs[k],
     ));
     let mut messages = Vec::new(heap);

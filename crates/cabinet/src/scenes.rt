@@ -1,6 +1,6 @@
 // The cabinet in one mode of its chargers.
-ghost use Rattle.std.specs.Prelude.{◌≡◌, ◌≤◌, length, map, take, IfSome, IfOk};
-ghost use Rattle.std.specs.List.{All as Each, zip};
+ghost use Rattle.std.specs.Prelude.{◌≡◌, ℕ, ◌<◌, ◌≤◌, take, IfSome, IfOk, slice_index_or};
+ghost use Rattle.std.specs.List.{All as Each};
 ghost use Rattle.flows.specs.Views.{All, Idle};
 
 use crate::delays::{longest, ticks_of};
@@ -12,6 +12,7 @@ use flows::Flow;
 use runs::Log;
 use stages::Shaper;
 use std::alloc::{AllocError, Global};
+use std::array;
 use tables::Table;
 
 // What is the same in each mode: the most of the door, and the shaping table.
@@ -37,14 +38,26 @@ pub(crate) fn door_and_shaping() -> Option<Tables>
 
 // What was seen: at the bus, at the controller, at the shaper, and on the whole way; the messages that came
 // out, in order, and how many calls were refused.
-#[derive(Drop)]
+#[derive(Clone, Copy)]
 pub(crate) struct Scene {
     pub bus: Seen,
     pub controller: Seen,
     pub shaper: Seen,
     pub way: usize,
-    pub sent: Vec<Sent>,
+    // An array and a count, so that a scene needs no heap.
+    sent: [Sent; LONG],
+    out: usize,
     pub refused: usize,
+    ghost few: { out ≤ 352 },
+}
+
+impl Scene {
+    // The messages that came out, in order.
+    pub(crate) fn sent(&self) -> &[Sent]
+        ensures { result.now ≡ take self.now.out self.now.sent }
+    {
+        &self.sent[..self.out]
+    }
 }
 
 // The first places of a list, or all of it.
@@ -54,20 +67,22 @@ pub(crate) fn first_of(list: &[u32], count: usize) -> &[u32]
     list.get(..count).unwrap_or(list)
 }
 
-// Messages, each with the tick in which it reached the bus.
-fn dated(heap: Global, messages: &[Message], since: &[usize]) -> Result<Vec<Sent>, AllocError>
-    requires { length messages.now ≤ 352 }
-    ensures value { IfOk result (λ v. v.items ≡ map (λ p. record { message = p.0; since = p.1 }) (zip messages.now since.now)) }
-    ensures few { IfOk result (λ v. length v.items ≤ 352) }
+// The message at a place, with the tick in which it reached the bus.
+fn dated_at(messages: &[Message; LONG], since: &[usize; LONG], place: usize) -> Sent
+    requires { place < 352 }
+    ensures { (s : Sent) → result ≡ record { message = slice_index_or messages.now place s.message; since = slice_index_or since.now place s.since } }
 {
-    messages
-        .iter()
-        .zip(since)
-        .map(|(message, since)| Sent {
-            message: *message,
-            since: *since,
-        })
-        .collect(heap)
+    Sent {
+        message: messages[place],
+        since: since[place],
+    }
+}
+
+// Messages, each with the tick in which it reached the bus.
+fn dated(messages: &[Message; LONG], since: &[usize; LONG]) -> [Sent; LONG]
+    ensures { (k : ℕ) (s : Sent) → k < 352 → slice_index_or result k s ≡ record { message = slice_index_or messages.now k s.message; since = slice_index_or since.now k s.since } }
+{
+    array::from_fn(|place| dated_at(messages, since, place))
 }
 
 // The bus over its traffic from power-on: nothing was drawn yet, which no type tells.
@@ -91,7 +106,7 @@ pub(crate) fn play<C: Flow + Copy + Drop>(
     log: &mut Log,
 ) -> Result<Scene, AllocError>
     requires { Each (λ c. All Idle (C.Flow.views c)) chargers.now }
-    ensures { IfOk result (λ s. length s.sent.items ≤ 352) }
+    ensures { IfOk result (λ s. s.out ≤ 352) }
 {
     let at_bus = watch(heap, loaded_bus(chargers, sheet, tables), log)?;
     let came = ticks_of(heap, log.arrived)?;
@@ -112,11 +127,9 @@ pub(crate) fn play<C: Flow + Copy + Drop>(
     let mut since = [0; LONG];
     let again = carry_all(cabinet, log, &mut slots, &came, &mut since);
 
-    let sent = dated(heap, &out[..carried.out], &since[..again.out])?;
-
     let ins = ticks_of(heap, first_of(log.arrived, TICKS))?;
     let outs = ticks_of(heap, first_of(log.passed, TICKS))?;
-    let since: Vec<usize> = sent.iter().map(|sent| sent.since).collect(heap)?;
+    let count = carried.out.min(again.out);
     Ok(Scene {
         bus: at_bus,
         controller: at_controller,
@@ -124,8 +137,9 @@ pub(crate) fn play<C: Flow + Copy + Drop>(
             wait: carried.wait,
             delay: longest(&ins, &outs),
         },
-        way: longest(&since, &outs),
-        sent,
+        way: longest(&since[..count], &outs),
+        sent: dated(&out, &since),
+        out: count,
         refused: carried.refused,
     })
 }

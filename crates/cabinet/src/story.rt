@@ -55,7 +55,7 @@ fn stages(rt: &HostRuntime, scene: &Scene, promised: &Promised) -> io::Result<()
     )?;
     println!(rt;
         "  {} messages came out, in order, and {} calls were refused",
-        scene.sent.len(),
+        scene.sent().len(),
         scene.refused,
     )
 }

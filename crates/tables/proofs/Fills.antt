@@ -19,6 +19,12 @@ filled_more {size} {n} {f} {xs} {v} old room is = record {
       (rw get_or-set_same is);
 }
 
+pub filled_one : {size : ℕ} {f : ℕ → ℕ} {xs : List ℕ} → f 0 ≡ 0 → length xs ≡ size → get_or xs 0 0 ≡ 0 → Filled size 1 f xs
+filled_one {size} {f} {xs} starts long zero-first = record {
+  long = long;
+  each = λ j h. let e : j ≡ 0 = omega arith in rw e (zero-first ∙ sym starts);
+}
+
 pub filled_front : {n size : ℕ} {f : ℕ → ℕ} {xs : List ℕ} → Graph n f → length xs ≡ size → ((k : ℕ) → k ≤ n → get_or xs k 0 ≡ f k) → Filled size (n + 1) (repeated n f) xs
 filled_front {n} {size} {f} {xs} g long is = record { long = long; each = λ k h. is k (omega arith) ∙ sym (repeated_within n f g.some g.starts k (omega arith)) }
 

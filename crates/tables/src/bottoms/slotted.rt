@@ -1,4 +1,4 @@
-ghost use Rattle.std.specs.Prelude.{◌≡◌, ℕ, ◌≤◌, length as count_of, sum as list_sum};
+ghost use Rattle.std.specs.Prelude.{◌≡◌, ℕ, ◌≤◌, length as count_of, slice_index, sum as list_sum};
 ghost use Rattle.tables.specs.Bottoms.{pair_of_slots, slotted_answer};
 ghost use Rattle.tables.specs.Courses.{sum, recorded};
 ghost use Rattle.tables.specs.Limits.{longest, limit};
@@ -28,19 +28,23 @@ struct Circle<'a> {
 }
 
 impl Circle<'_> {
-    // The sum of the first counts.
-    fn sum_to(&self, length: usize) -> u32
-        requires { length ≤ count_of self.now.counts.now }
-        ensures { result ≡ sum (recorded self.now.counts.now) length }
+    // The sum of the first k counts, for each k: one step from each to the next.
+    fn running_sums(&self) -> [u32; 65]
+        ensures { (k : ℕ) → k ≤ count_of self.now.counts.now → slice_index result k ≡ sum (recorded self.now.counts.now) k }
     {
-        total(&self.counts[..length]) as u32
+        let mut sums = [0; 65];
+        for (before, &count) in self.counts.iter().enumerate() {
+            sums[before + 1] = sums[before] + count;
+        }
+        sums
     }
 
     // The running sums around the circle, laid out over two rounds as every table is.
     fn sums(&self) -> Table
         ensures { Shows result (count_of self.now.counts.now) (sum (recorded self.now.counts.now)) }
     {
-        Table::of(self.counts.len(), |length| self.sum_to(length))
+        let sums = self.running_sums();
+        Table::of(self.counts.len(), |length| sums[length])
     }
 
     // The largest and the smallest sum of k neighbours on the circle, for each k.

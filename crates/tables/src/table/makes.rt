@@ -5,7 +5,6 @@ ghost use Rattle.tables.specs.Ranges.{Gives};
 ghost use Rattle.tables.specs.Tables.{Shows};
 
 use super::Table;
-use std::array;
 
 // An array with the counts of the frame; the places past it are still 0.
 fn front<F: Fn(usize) -> u32>(frame: usize, fill: F) -> [u32; 129]
@@ -13,11 +12,11 @@ fn front<F: Fn(usize) -> u32>(frame: usize, fill: F) -> [u32; 129]
     requires callable { (k : ℕ) → k ≤ frame → F.pre fill k }
     ensures { (f : ℕ → ℕ) → Gives (F.post fill) frame f → (k : ℕ) → k ≤ frame → slice_index result k ≡ f k }
 {
-    array::from_fn(
-        |k|
-            requires { k ≤ frame → F.pre fill k }
-        { if k <= frame { fill(k) } else { 0 } },
-    )
+    let mut entries = [0; 129];
+    for (length, entry) in entries[..=frame].iter_mut().enumerate() {
+        *entry = fill(length);
+    }
+    entries
 }
 
 impl Table {
